@@ -1,0 +1,113 @@
+-- Counting set bits: place by place, of two parts, of an exclusive or; and parity, which folds.
+-- Assumes nothing.
+use mathlib.Core.Path.{_≡_, refl, sym, ap, ap₂, _∙_, subst}
+use Prim.Native.Nat.{ℕ, zero, suc, _+_, _*_, _/_, _%_, _^_, _≤_, _<_, zero-le, suc-le-suc}
+use native.Mathlib.Nat.{mod-lt, mod-mod, add-mod, add-zero, zero-add, add-assoc, suc-add, div-one, div-eq-of-lt}
+use native.Mathlib.Numerals.{one-add, add-one}
+use native.Mathlib.Omega.{arith}
+use lib.Arith.{lt-one}
+use lib.Bits.{bitXor, differ, xor-shr}
+use lib.Count.{ones, onesIn, ones-step}
+use lib.Dec.{ltb, ltb→lt}
+use lib.Pow.{shr-shr, shr-lt, mod-mod-pow, field}
+use Rattle.row.specs.Code.{setBits, parity}
+use Rattle.row.specs.Voting.{bitAt}
+use Rattle.row.proofs.Digits.{equal2, equal3, at-digits2}
+use Rattle.row.proofs.Places.{two-pos, bit-lowest, bit-half, xor-lowest}
+
+-- ---- counts, place by place
+
+pub ones-sum : (d a b c : ℕ) → ((k : ℕ) → k < d → bitAt k a + bitAt k b ≡ bitAt k c) → onesIn d a + onesIn d b ≡ onesIn d c
+unfolding onesIn
+ones-sum zero a b c h = refl
+ones-sum (suc d) a b c h =
+    let low : a % 2 + b % 2 ≡ c % 2 = ap₂ _+_ (sym (bit-lowest a)) (sym (bit-lowest b)) ∙ h 0 (suc-le-suc zero-le) ∙ bit-lowest c in
+    let rest : onesIn d (a / 2) + onesIn d (b / 2) ≡ onesIn d (c / 2) =
+    ones-sum d (a / 2) (b / 2) (c / 2)
+    (λ k l. ap₂ _+_ (bit-half k a) (bit-half k b) ∙ h (suc k) (suc-le-suc l) ∙ sym (bit-half k c)) in
+    omega arith
+
+pub ones-at-most : (d a b c : ℕ) → ((k : ℕ) → k < d → bitAt k c ≤ bitAt k a + bitAt k b) → onesIn d c ≤ onesIn d a + onesIn d b
+unfolding onesIn
+ones-at-most zero a b c h = zero-le
+ones-at-most (suc d) a b c h =
+    let low : c % 2 ≤ a % 2 + b % 2 = simp bit-lowest at (h 0 (suc-le-suc zero-le)) in
+    let rest : onesIn d (c / 2) ≤ onesIn d (a / 2) + onesIn d (b / 2) =
+    ones-at-most d (a / 2) (b / 2) (c / 2) (λ k l. simp bit-half (h (suc k) (suc-le-suc l))) in
+    omega arith
+
+-- ---- counts of two parts
+
+pub ones-split : (d e n : ℕ) → onesIn (d + e) n ≡ onesIn d n + onesIn e (n / 2 ^ d)
+unfolding onesIn
+ones-split zero e n = ap₂ onesIn (zero-add e) (sym (div-one n)) ∙ sym (zero-add (onesIn e (n / 1)))
+ones-split (suc d) e n =
+    ap (λ (j : ℕ). onesIn j n) (suc-add d e)
+    ∙ ap (λ (x : ℕ). n % 2 + x) (ones-split d e (n / 2) ∙ ap (λ (m : ℕ). onesIn d (n / 2) + onesIn e m) (shr-shr n 1 d ∙ ap (λ (j : ℕ). n / 2 ^ j) (one-add d)))
+    ∙ sym (add-assoc (n % 2) (onesIn d (n / 2)) (onesIn e (n / 2 ^ suc d)))
+
+pub ones-none : (d : ℕ) → onesIn d 0 ≡ 0
+unfolding onesIn
+ones-none zero = refl
+ones-none (suc d) = zero-add (onesIn d 0) ∙ ones-none d
+
+-- a count of more places than a number has
+pub ones-wider : (d e n : ℕ) → n < 2 ^ d → onesIn (d + e) n ≡ onesIn d n
+ones-wider d e n h =
+    ones-split d e n ∙ ap (λ (m : ℕ). onesIn d n + onesIn e m) (div-eq-of-lt h)
+    ∙ ap (λ (m : ℕ). onesIn d n + m) (ones-none e) ∙ add-zero (onesIn d n)
+
+-- a count looks at no place above
+pub ones-low : (d n : ℕ) → onesIn d (n % 2 ^ d) ≡ onesIn d n
+unfolding onesIn
+ones-low zero n = refl
+ones-low (suc d) n =
+    ap (λ (j : ℕ). n % 2 ^ j % 2 + onesIn d (n % 2 ^ j / 2)) (sym (add-one d))
+    ∙ ap₂ _+_ (mod-mod-pow n d 1) (ap (onesIn d) (field n d 1) ∙ ones-low d (n / 2))
+
+-- the language's count of ones, at a number of d places
+pub ones-counted : (d n : ℕ) → n < 2 ^ d → ones n ≡ onesIn d n
+unfolding onesIn ones
+ones-counted zero n h = ap ones (lt-one h)
+ones-counted (suc d) n h =
+    ones-step n ∙ ap (λ (x : ℕ). n % 2 + x) (ones-counted d (n / 2) (shr-lt d 1 (subst (λ (j : ℕ). n < 2 ^ j) (sym (add-one d)) h)))
+
+-- ---- parity
+
+sum-parity : (a b : ℕ) → (a + b) % 2 ≡ differ (a % 2) (b % 2)
+sum-parity a b =
+    add-mod a b 2 ∙ equal2 (λ x y. (x + y) % 2) differ tt (a % 2) (b % 2) (mod-lt a two-pos) (mod-lt b two-pos)
+
+differ-lt : (x y : ℕ) → x < 2 → y < 2 → differ x y < 2
+differ-lt x y hx hy = ltb→lt _ _ (at-digits2 (λ x y. ltb (differ x y) 2) tt x y hx hy)
+
+differ-swap : (w x y z : ℕ) → w < 2 → x < 2 → y < 2 → z < 2 → differ (differ w x) (differ y z) ≡ differ (differ w y) (differ x z)
+differ-swap w x y z hw hx hy hz =
+    equal3 (λ a b c. differ a (differ b c)) (λ a b c. differ (differ a b) c) tt (differ w x) y z (differ-lt w x hw hx) hy hz
+    ∙ ap (λ (u : ℕ). differ u z) (equal3 (λ a b c. differ (differ a b) c) (λ a b c. differ (differ a c) b) tt w x y hw hx hy)
+    ∙ sym (equal3 (λ a b c. differ a (differ b c)) (λ a b c. differ (differ a b) c) tt (differ w y) x z (differ-lt w y hw hy) hx hz)
+
+-- the parity of an exclusive or
+pub ones-xor : (d a b : ℕ) → onesIn d (bitXor a b) % 2 ≡ differ (onesIn d a % 2) (onesIn d b % 2)
+unfolding onesIn
+ones-xor zero a b = refl
+ones-xor (suc d) a b =
+    sum-parity (bitXor a b % 2) (onesIn d (bitXor a b / 2))
+    ∙ ap₂ differ (mod-mod (bitXor a b) 2 ∙ xor-lowest a b) (ap (λ (m : ℕ). onesIn d m % 2) (xor-shr a b 1) ∙ ones-xor d (a / 2) (b / 2))
+    ∙ differ-swap (a % 2) (b % 2) (onesIn d (a / 2) % 2) (onesIn d (b / 2) % 2)
+    (mod-lt a two-pos) (mod-lt b two-pos) (mod-lt (onesIn d (a / 2)) two-pos) (mod-lt (onesIn d (b / 2)) two-pos)
+    ∙ sym (ap₂ differ (sum-parity (a % 2) (onesIn d (a / 2)) ∙ ap (λ (x : ℕ). differ x (onesIn d (a / 2) % 2)) (mod-mod a 2))
+    (sum-parity (b % 2) (onesIn d (b / 2)) ∙ ap (λ (x : ℕ). differ x (onesIn d (b / 2) % 2)) (mod-mod b 2)))
+
+pub parity-xor : (a b : ℕ) → parity (bitXor a b) ≡ differ (parity a) (parity b)
+unfolding parity setBits
+parity-xor a b = ones-xor 24 a b
+
+pub parity-lt : (a : ℕ) → parity a < 2
+unfolding parity
+parity-lt a = mod-lt (setBits a) two-pos
+
+-- the upper half of the places folded onto the lower one keeps the parity
+pub fold : (d n : ℕ) → onesIn (d + d) n % 2 ≡ onesIn d (bitXor n (n / 2 ^ d)) % 2
+fold d n =
+    ap (λ (x : ℕ). x % 2) (ones-split d d n) ∙ sum-parity (onesIn d n) (onesIn d (n / 2 ^ d)) ∙ sym (ones-xor d n (n / 2 ^ d))

@@ -1,0 +1,58 @@
+-- Equations between digits, which are 0 or 1, settled by trying every case: a test that antt computes.
+-- Assumes nothing.
+use mathlib.Core.Logic.{_⊎_, inl, inr}
+use mathlib.Core.Path.{_≡_, sym, subst}
+use mathlib.Core.Bool.{Bool, true, false, _&&_}
+use Prim.Native.Nat.{ℕ, zero, suc, _<_}
+use native.Mathlib.Nat.{le-of-suc-le-suc, not-suc-le-zero, eq-or-lt-of-le}
+use lib.Dec.{T, eqb, eqb→eq}
+
+pub both-left : (a b : Bool) → T (a && b) → T a
+both-left true b t = tt
+both-left false b t = t
+
+pub both-right : (a b : Bool) → T (a && b) → T b
+both-right true b t = t
+both-right false b t = absurd t
+
+-- a test of a digit passes at 0 and at 1, so at every digit
+abbrev pub either : (ℕ → Bool) → Bool
+either f = f 0 && f 1
+
+pub at-digit : (f : ℕ → Bool) → T (either f) → (x : ℕ) → x < 2 → T (f x)
+at-digit f t zero h = both-left (f 0) (f 1) t
+at-digit f t (suc zero) h = both-right (f 0) (f 1) t
+at-digit f t (suc (suc x)) h = absurd (not-suc-le-zero (le-of-suc-le-suc (le-of-suc-le-suc h)))
+
+abbrev pub tried2 : (ℕ → ℕ → Bool) → Bool
+tried2 f = either (λ x. either (f x))
+
+pub at-digits2 : (f : ℕ → ℕ → Bool) → T (tried2 f) → (x y : ℕ) → x < 2 → y < 2 → T (f x y)
+at-digits2 f t x y hx hy = at-digit (f x) (at-digit (λ x′. either (f x′)) t x hx) y hy
+
+abbrev pub tried3 : (ℕ → ℕ → ℕ → Bool) → Bool
+tried3 f = either (λ x. tried2 (f x))
+
+pub at-digits3 : (f : ℕ → ℕ → ℕ → Bool) → T (tried3 f) → (x y z : ℕ) → x < 2 → y < 2 → z < 2 → T (f x y z)
+at-digits3 f t x y z hx hy hz = at-digits2 (f x) (at-digit (λ x′. tried2 (f x′)) t x hx) y z hy hz
+
+-- two terms over digits that agree in every case are equal
+pub equal2 : (f g : ℕ → ℕ → ℕ) → T (tried2 (λ x y. eqb (f x y) (g x y))) → (x y : ℕ) → x < 2 → y < 2 → f x y ≡ g x y
+equal2 f g t x y hx hy = eqb→eq (f x y) (g x y) (at-digits2 (λ x′ y′. eqb (f x′ y′) (g x′ y′)) t x y hx hy)
+
+pub equal3 : (f g : ℕ → ℕ → ℕ → ℕ) → T (tried3 (λ x y z. eqb (f x y z) (g x y z)))
+    → (x y z : ℕ) → x < 2 → y < 2 → z < 2 → f x y z ≡ g x y z
+equal3 f g t x y z hx hy hz = eqb→eq (f x y z) (g x y z) (at-digits3 (λ x′ y′ z′. eqb (f x′ y′ z′) (g x′ y′ z′)) t x y z hx hy hz)
+
+-- a test passes at each number below n
+abbrev pub allBelow : ℕ → (ℕ → Bool) → Bool
+allBelow zero f = true
+allBelow (suc n) f = f n && allBelow n f
+
+pub at-below : (n : ℕ) (f : ℕ → Bool) → T (allBelow n f) → (k : ℕ) → k < n → T (f k)
+at-below zero f t k h = absurd (not-suc-le-zero h)
+at-below (suc n) f t k h = go (eq-or-lt-of-le (le-of-suc-le-suc h)) (at-below n f (both-right (f n) (allBelow n f) t) k)
+  where
+    go : (k ≡ n) ⊎ (k < n) → (k < n → T (f k)) → T (f k)
+    go (inl e) rest = subst (λ (m : ℕ). T (f m)) (sym e) (both-left (f n) (allBelow n f) t)
+    go (inr l) rest = rest l

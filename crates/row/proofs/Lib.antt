@@ -1,0 +1,6 @@
+pub mod Digits
+pub mod Places
+pub mod Counts
+pub mod Codes
+pub mod Syndromes
+pub mod Votes

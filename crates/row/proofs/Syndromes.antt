@@ -1,0 +1,173 @@
+-- The syndrome of some bits, and that reading by it finds what the definition by distance finds.
+-- Assumes nothing.
+use mathlib.Core.Path.{_≡_, refl, sym, ap, ap₂, _∙_, subst}
+use mathlib.Core.Bool.{Bool, true, false}
+use mathlib.Core.List.{List, [], _∷_}
+use Prim.Native.Nat.{ℕ, zero, suc, _+_, _*_, _/_, _%_, _^_, _≤_, _<_, suc-le-suc}
+use native.Mathlib.Nat.{mod-lt, mod-eq-of-lt, le-refl, le-of-lt}
+use borrow.Author.Tests.{eqb-true, eqb-false, eq-eqb, ne-eqb, lt-ltb, le-ltb}
+use lib.Bits.{bitXor, xor-self, xor-zero-r, xor-comm, xor-mod, xor-shr, xor-lt}
+use lib.Count.{onesIn}
+use lib.Dec.{eqb, ltb, eqb→eq}
+use lib.ListN.{getD}
+use lib.Pow.{split, pow-pos, shr-lt}
+use Rattle.row.specs.Answers.{refused, found}
+use Rattle.row.specs.Choice.{if_then_else_}
+use Rattle.row.specs.Code.{setBits, parity, masks, withCheck, withChecks, code}
+use Rattle.row.specs.Reading.{dataOf, isCode, flippedAt, repairedBelow, decoded}
+use Rattle.row.specs.declared.answer.Answer.{Answer}
+use Rattle.row.specs.declared.answer.Condition.the-variants.{Clean, Repaired}
+use Rattle.row.proofs.Codes.{code-linear, code-data, code-lt}
+use Rattle.row.proofs.Digits.{allBelow, at-below}
+use Rattle.row.proofs.Places.{xor-assoc}
+
+-- ---- exclusive or cancels
+
+pub xor-cancel : (a b : ℕ) → bitXor (bitXor a b) b ≡ a
+xor-cancel a b = xor-assoc a b b ∙ ap (bitXor a) (xor-self b) ∙ xor-zero-r a
+
+pub xor-none : (a b : ℕ) → bitXor a b ≡ 0 → a ≡ b
+xor-none a b e = sym (xor-cancel a b) ∙ ap (λ (x : ℕ). bitXor x b) e
+
+xor-swap : (a b c d : ℕ) → bitXor (bitXor a b) (bitXor c d) ≡ bitXor (bitXor a c) (bitXor b d)
+xor-swap a b c d =
+    xor-assoc a b (bitXor c d)
+    ∙ ap (bitXor a) (sym (xor-assoc b c d) ∙ ap (λ (x : ℕ). bitXor x d) (xor-comm b c) ∙ xor-assoc c b d)
+    ∙ sym (xor-assoc a c (bitXor b d))
+
+-- ---- the syndrome: where the check bits of some bits differ from those of their data
+
+unfoldable pub syndrome : ℕ → ℕ
+syndrome bits = bitXor bits (code (bits % 2 ^ 16)) / 2 ^ 16
+
+data-lt : (bits : ℕ) → bits % 2 ^ 16 < 2 ^ 16
+data-lt bits = mod-lt bits (pow-pos 16)
+
+pub syndrome-linear : (a b : ℕ) → syndrome (bitXor a b) ≡ bitXor (syndrome a) (syndrome b)
+unfolding syndrome
+syndrome-linear a b =
+    ap (λ (x : ℕ). bitXor (bitXor a b) x / 2 ^ 16)
+    (ap code (xor-mod a b 16) ∙ code-linear (a % 2 ^ 16) (b % 2 ^ 16) (data-lt a) (data-lt b))
+    ∙ ap (λ (x : ℕ). x / 2 ^ 16) (xor-swap a b (code (a % 2 ^ 16)) (code (b % 2 ^ 16)))
+    ∙ xor-shr (bitXor a (code (a % 2 ^ 16))) (bitXor b (code (b % 2 ^ 16))) 16
+
+-- only check bits differ
+data-agrees : (bits : ℕ) → bitXor bits (code (bits % 2 ^ 16)) % 2 ^ 16 ≡ 0
+data-agrees bits =
+    xor-mod bits (code (bits % 2 ^ 16)) 16
+    ∙ ap (bitXor (bits % 2 ^ 16)) (code-data (bits % 2 ^ 16) (data-lt bits))
+    ∙ xor-self (bits % 2 ^ 16)
+
+pub no-syndrome : (bits : ℕ) → syndrome bits ≡ 0 → bits ≡ code (bits % 2 ^ 16)
+unfolding syndrome
+no-syndrome bits e =
+    xor-none bits (code (bits % 2 ^ 16))
+    (sym (split (bitXor bits (code (bits % 2 ^ 16))) 16) ∙ ap₂ (λ (q r : ℕ). q * 2 ^ 16 + r) e (data-agrees bits))
+
+pub code-syndrome : (bits : ℕ) → bits ≡ code (bits % 2 ^ 16) → syndrome bits ≡ 0
+unfolding syndrome
+code-syndrome bits e = ap (λ (x : ℕ). x / 2 ^ 16) (ap (λ (x : ℕ). bitXor x (code (bits % 2 ^ 16))) e ∙ xor-self (code (bits % 2 ^ 16)))
+
+-- ---- what a read asks, by the syndrome
+
+-- two tests that hold together are one
+same-test : (a b c d : ℕ) → (a ≡ b → c ≡ d) → (c ≡ d → a ≡ b) → eqb a b ≡ eqb c d
+same-test a b c d f g = go (eqb c d) refl
+  where
+    go : (t : Bool) → eqb c d ≡ t → eqb a b ≡ t
+    go true e = eq-eqb a b (g (eqb-true c d e))
+    go false e = ne-eqb a b (λ h. eqb-false c d e (f h))
+
+pub is-code : (bits : ℕ) → isCode bits ≡ eqb (syndrome bits) 0
+is-code bits = same-test bits (code (bits % 2 ^ 16)) (syndrome bits) 0 (code-syndrome bits) (no-syndrome bits)
+
+-- the syndromes of the 22 places
+unfoldable pub columns : List ℕ
+columns =
+    0x23 ∷ 0x25 ∷ 0x26 ∷ 0x07 ∷ 0x29 ∷ 0x2a ∷ 0x0b ∷ 0x2c ∷ 0x0d ∷ 0x0e ∷ 0x2f ∷ 0x31 ∷ 0x32 ∷ 0x13 ∷ 0x34 ∷ 0x15
+    ∷ 0x01 ∷ 0x02 ∷ 0x04 ∷ 0x08 ∷ 0x10 ∷ 0x20 ∷ []
+
+pub column : (place : ℕ) → place < 22 → syndrome (2 ^ place) ≡ getD columns place 0
+unfolding columns syndrome code withChecks withCheck masks parity setBits onesIn
+column place h =
+    eqb→eq (syndrome (2 ^ place)) (getD columns place 0)
+    (at-below 22 (λ k. eqb (syndrome (2 ^ k)) (getD columns k 0)) tt place h)
+
+is-code-flipped : (place bits : ℕ) → isCode (flippedAt place bits) ≡ eqb (syndrome bits) (syndrome (2 ^ place))
+is-code-flipped place bits =
+    is-code (flippedAt place bits) ∙ ap (λ (s : ℕ). eqb s 0) (syndrome-linear bits (2 ^ place))
+    ∙ same-test (bitXor (syndrome bits) (syndrome (2 ^ place))) 0 (syndrome bits) (syndrome (2 ^ place))
+    (xor-none (syndrome bits) (syndrome (2 ^ place)))
+    (λ e. ap (λ (s : ℕ). bitXor s (syndrome (2 ^ place))) e ∙ xor-self (syndrome (2 ^ place)))
+
+-- the place below `places` whose flip makes a syndrome, or 22 where none does
+unfoldable pub placeBelow : ℕ → ℕ → ℕ
+placeBelow zero s = 22
+placeBelow (suc place) s = if eqb s (getD columns place 0) then place else placeBelow place s
+
+-- what is read where the bit at a place is wrong; 22 stands for no place
+abbrev pub repairedAt : ℕ → ℕ → Answer
+repairedAt place bits = if ltb place 22 then found (dataOf (flippedAt place bits)) (Repaired place) else refused 8
+
+repaired-by-place : (places bits : ℕ) → places ≤ 22 → repairedBelow places bits ≡ repairedAt (placeBelow places (syndrome bits)) bits
+unfolding repairedBelow placeBelow
+repaired-by-place zero bits h = refl
+repaired-by-place (suc place) bits h =
+    rw (is-code-flipped place bits, column place h)
+    (go (repaired-by-place place bits (le-of-lt h)) (eqb (syndrome bits) (getD columns place 0)))
+  where
+    go : repairedBelow place bits ≡ repairedAt (placeBelow place (syndrome bits)) bits → (t : Bool)
+        → (if t then found (dataOf (flippedAt place bits)) (Repaired place) else repairedBelow place bits)
+        ≡ repairedAt (if t then place else placeBelow place (syndrome bits)) bits
+    go below true = rw (lt-ltb place 22 h)
+    go below false = below
+
+-- reading by the syndrome
+pub decoded-by-syndrome : (bits : ℕ)
+    → decoded bits ≡ (if eqb (syndrome bits) 0 then found (dataOf bits) Clean else repairedAt (placeBelow 22 (syndrome bits)) bits)
+unfolding decoded
+decoded-by-syndrome bits = rw (is-code bits, repaired-by-place 22 bits (le-refl 22))
+
+-- ---- the code's table of places
+
+-- the place that each syndrome names, or 22
+unfoldable pub places : List ℕ
+places =
+    22 ∷ 16 ∷ 17 ∷ 22 ∷ 18 ∷ 22 ∷ 22 ∷ 3 ∷ 19 ∷ 22 ∷ 22 ∷ 6 ∷ 22 ∷ 8 ∷ 9 ∷ 22
+    ∷ 20 ∷ 22 ∷ 22 ∷ 13 ∷ 22 ∷ 15 ∷ 22 ∷ 22 ∷ 22 ∷ 22 ∷ 22 ∷ 22 ∷ 22 ∷ 22 ∷ 22 ∷ 22
+    ∷ 21 ∷ 22 ∷ 22 ∷ 0 ∷ 22 ∷ 1 ∷ 2 ∷ 22 ∷ 22 ∷ 4 ∷ 5 ∷ 22 ∷ 7 ∷ 22 ∷ 22 ∷ 10
+    ∷ 22 ∷ 11 ∷ 12 ∷ 22 ∷ 14 ∷ 22 ∷ 22 ∷ 22 ∷ 22 ∷ 22 ∷ 22 ∷ 22 ∷ 22 ∷ 22 ∷ 22 ∷ 22 ∷ []
+
+named : (s : ℕ) → s < 64 → getD places s 0 ≡ placeBelow 22 s
+unfolding places columns placeBelow
+named s h =
+    eqb→eq (getD places s 0) (placeBelow 22 s) (at-below 64 (λ k. eqb (getD places k 0) (placeBelow 22 k)) tt s h)
+
+-- what the code reads: some bits, the code of their data, and the syndrome that it works out from the two
+module _ (bits coded : ℕ) (right : coded ≡ code (bits % 2 ^ 16)) (small : bits < 2 ^ 22) where
+  worked-out : bitXor bits coded / 2 ^ 16 % 64 ≡ syndrome bits
+  unfolding syndrome
+  worked-out =
+      rw right
+      (mod-eq-of-lt (shr-lt 6 16 (xor-lt 22 bits (code (bits % 2 ^ 16)) small (code-lt (bits % 2 ^ 16) (data-lt bits)))))
+
+  below-64 : syndrome bits < 64
+  below-64 = subst (λ (s : ℕ). s < 64) worked-out (mod-lt (bitXor bits coded / 2 ^ 16) (pow-pos 6))
+
+  pub read-clean : bitXor bits coded / 2 ^ 16 % 64 ≡ 0 → decoded bits ≡ found (bits % 2 ^ 16) Clean
+  read-clean none = decoded-by-syndrome bits ∙ rw (eq-eqb (syndrome bits) 0 (sym worked-out ∙ none))
+
+  read-damaged : (bitXor bits coded / 2 ^ 16 % 64 ≡ 0 → ⊥)
+      → decoded bits ≡ repairedAt (getD places (bitXor bits coded / 2 ^ 16 % 64) 0) bits
+  read-damaged some =
+      decoded-by-syndrome bits ∙ rw (ne-eqb (syndrome bits) 0 (λ e. some (worked-out ∙ e)))
+      (sym (ap (λ (p : ℕ). repairedAt p bits) (ap (λ (s : ℕ). getD places s 0) worked-out ∙ named (syndrome bits) below-64)))
+
+  pub read-refused : (bitXor bits coded / 2 ^ 16 % 64 ≡ 0 → ⊥) → 21 < getD places (bitXor bits coded / 2 ^ 16 % 64) 0
+      → decoded bits ≡ refused 8
+  read-refused some past = read-damaged some ∙ rw (le-ltb (getD places (bitXor bits coded / 2 ^ 16 % 64) 0) 22 past)
+
+  pub read-repaired : (place : ℕ) → (bitXor bits coded / 2 ^ 16 % 64 ≡ 0 → ⊥) → getD places (bitXor bits coded / 2 ^ 16 % 64) 0 ≡ place
+      → place ≤ 21 → decoded bits ≡ found (bitXor bits (2 ^ place) % 2 ^ 16) (Repaired place)
+  read-repaired place some names low =
+      read-damaged some ∙ ap (λ (p : ℕ). repairedAt p bits) names ∙ rw (lt-ltb place 22 (suc-le-suc low))

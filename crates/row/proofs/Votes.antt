@@ -1,0 +1,63 @@
+-- Counting who has a bit, row by row, and the vote as a number made of its bits.
+-- Assumes nothing.
+use mathlib.Core.Path.{_≡_, refl, sym, ap, _∙_}
+use mathlib.Core.Bool.{Bool, true, false}
+use mathlib.Core.Logic.{_⊎_, inl, inr}
+use mathlib.Core.List.{List, [], _∷_}
+use Prim.Native.Nat.{ℕ, zero, suc, _+_, _*_, _/_, _%_, _^_, _≤_, _<_}
+use native.Mathlib.Nat.{add-assoc, add-comm, add-zero, zero-add, zero-div, zero-mul, one-mul, mul-comm, pow-suc, le-of-eq, le-trans}
+use native.Mathlib.Numerals.{add-one}
+use borrow.Author.Tests.{le-leb, lt-leb}
+use lib.Arith.{digits-lt}
+use lib.Dec.{leb, lit<}
+use lib.ListN.{length, getD, take}
+use lib.Seq.{take-nil, take-all}
+use Rattle.row.specs.Choice.{if_then_else_}
+use Rattle.row.specs.Voting.{bitAt, holders, votedBit, votedBelow}
+
+-- one row more; past the last row there is nothing to count
+pub holders-more : (place : ℕ) (rows : List ℕ) (i : ℕ)
+    → holders place (take (suc i) rows) ≡ holders place (take i rows) + bitAt place (getD rows i 0)
+unfolding holders
+holders-more place [] i =
+    sym (ap (λ (rows : List ℕ). holders place rows + bitAt place 0) (take-nil i) ∙ zero-add (bitAt place 0) ∙ ap (λ (n : ℕ). n % 2) (zero-div (2 ^ place)))
+holders-more place (row ∷ rows) zero = add-comm (bitAt place row) 0
+holders-more place (row ∷ rows) (suc i) =
+    ap (λ (n : ℕ). bitAt place row + n) (holders-more place rows i)
+    ∙ sym (add-assoc (bitAt place row) (holders place (take i rows)) (bitAt place (getD rows i 0)))
+
+-- ---- the voted bits
+
+voted-bit-lt : (threshold : ℕ) (rows : List ℕ) (place : ℕ) → votedBit threshold rows place < 2
+voted-bit-lt threshold rows place = go (leb threshold (holders place rows))
+  where
+    go : (t : Bool) → (if t then 1 else 0) < 2
+    go true = lit< tt
+    go false = lit< tt
+
+-- the voted bits below a place are below it
+pub voted-lt : (places threshold : ℕ) (rows : List ℕ) → votedBelow places threshold rows < 2 ^ places
+unfolding votedBelow
+voted-lt zero threshold rows = lit< tt
+voted-lt (suc place) threshold rows =
+    rw (add-comm, pow-suc, mul-comm (2 ^ place) 2) (digits-lt (voted-bit-lt threshold rows place) (voted-lt place threshold rows))
+
+-- one bit more, as the code judges it
+pub voted-set : (place threshold : ℕ) (rows : List ℕ) → threshold ≤ holders place rows
+    → votedBelow (place + 1) threshold rows ≡ votedBelow place threshold rows + 2 ^ place
+unfolding votedBelow
+voted-set place threshold rows h =
+    rw (add-one, le-leb threshold (holders place rows) h, one-mul)
+
+pub voted-clear : (place threshold : ℕ) (rows : List ℕ) → holders place rows < threshold
+    → votedBelow (place + 1) threshold rows ≡ votedBelow place threshold rows
+unfolding votedBelow
+voted-clear place threshold rows h =
+    rw (add-one, lt-leb threshold (holders place rows) h, zero-mul, add-zero)
+
+-- eight rows hold no ninth
+pub counted-rows : (rows : List ℕ) (count counted : ℕ) → length rows ≡ 8 → ((count < 8) × (counted ≡ count)) ⊎ ((8 ≤ count) × (counted ≡ 8))
+    → take counted rows ≡ take count rows
+counted-rows rows count counted e (inl w) = ap (λ (n : ℕ). take n rows) (w .1)
+counted-rows rows count counted e (inr w) =
+    ap (λ (n : ℕ). take n rows) (w .1) ∙ take-all 8 rows (le-of-eq e) ∙ sym (take-all count rows (le-trans (le-of-eq e) (w .0)))

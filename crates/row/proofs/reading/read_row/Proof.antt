@@ -1,0 +1,20 @@
+-- `row::reading::read_row` meets its contract, by those of `upright` and `decoded`.
+-- Assumes nothing.
+use borrow.Author.Needs.{needs}
+use mathlib.Core.Path.{ap, _∙_}
+use Prim.Native.Nat.{ℕ, _%_, _^_}
+use Rattle.row.specs.Reading.{decoded}
+use Rattle.row.proofs.reading.read_row.Statement.{statement}
+use Rattle.row.proofs.reading.read_row.Tie as tie
+
+upright-requires : tie.Need-upright-requires
+upright-requires c κs = search needs
+
+decoded-requires : tie.Need-decoded-requires
+decoded-requires c κs = search needs
+
+returns : tie.Need-returns
+returns c = c .decoded .ensures ∙ ap (λ (row : ℕ). decoded (row % 2 ^ 22)) (c .before .upright .ensures)
+
+pub read-row-spec : {M : Type 1} → statement M
+read-row-spec = tie.close (tie.spec upright-requires decoded-requires returns)

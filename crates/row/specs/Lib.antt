@@ -1,0 +1,6 @@
+pub mod Choice
+pub mod Answers
+pub mod Code
+pub mod Reading
+pub mod Writing
+pub mod Voting

@@ -1,0 +1,41 @@
+-- Reading a row with ECC (document 01, "A row with ECC").
+use Prim.Native.Nat.{ℕ, zero, suc, _/_, _%_, _^_}
+use mathlib.Core.Bool.{Bool}
+use lib.Bits.{bitXor}
+use lib.Dec.{eqb}
+use Rattle.row.specs.Choice.{if_then_else_}
+use Rattle.row.specs.Answers.{refused, found}
+use Rattle.row.specs.Code.{code, flipped}
+use Rattle.row.specs.declared.answer.Answer.{Answer}
+use Rattle.row.specs.declared.answer.Condition.the-variants.{Clean, Repaired}
+
+-- bits 23 and 22 both set: all 24 bits flipped; otherwise the row as it is
+abbrev pub upright : ℕ → ℕ
+upright row = if eqb (row / 2 ^ 22 % 4) 3 then flipped row else row
+
+-- bits 15:0, the data
+abbrev pub dataOf : ℕ → ℕ
+dataOf bits = bits % 2 ^ 16
+
+-- some bits are a code if they are the code of their data
+abbrev pub isCode : ℕ → Bool
+isCode bits = eqb bits (code (dataOf bits))
+
+-- the bits that differ from these in one place
+abbrev pub flippedAt : ℕ → ℕ → ℕ
+flippedAt place bits = bitXor bits (2 ^ place)
+
+-- a code that differs from the bits in one place below `places`: its value, repaired there; none: 8
+unfoldable pub repairedBelow : ℕ → ℕ → Answer
+repairedBelow zero bits = refused 8
+repairedBelow (suc place) bits =
+    if isCode (flippedAt place bits) then found (dataOf (flippedAt place bits)) (Repaired place)
+    else repairedBelow place bits
+
+-- the value whose code differs from bits 21:0 in at most one place: in none, clean; in one, repaired; no such value: 8
+unfoldable pub decoded : ℕ → Answer
+decoded bits = if isCode bits then found (dataOf bits) Clean else repairedBelow 22 bits
+
+-- a row read with ECC
+abbrev pub readRow : ℕ → Answer
+readRow row = decoded (upright row % 2 ^ 22)
