@@ -1,16 +1,17 @@
 -- Counting who has a bit, row by row, and the vote as a number made of its bits.
 -- Assumes nothing.
-use mathlib.Core.Path.{_≡_, refl, sym, ap, _∙_}
+use mathlib.Core.Path.{_≡_, refl, sym, ap, ap₂, _∙_}
 use mathlib.Core.Bool.{Bool, true, false}
 use mathlib.Core.Logic.{_⊎_, inl, inr}
 use mathlib.Core.List.{List, [], _∷_}
-use Prim.Native.Nat.{ℕ, zero, suc, _+_, _*_, _/_, _%_, _^_, _≤_, _<_}
-use native.Mathlib.Nat.{add-assoc, add-comm, add-zero, zero-add, zero-div, zero-mul, one-mul, mul-comm, pow-suc, le-of-eq, le-trans}
-use native.Mathlib.Numerals.{add-one}
+use Prim.Native.Nat.{ℕ, zero, suc, _+_, _*_, _/_, _%_, _^_, _≤_, _<_, suc-le-suc}
+use native.Mathlib.Nat.{add-assoc, add-comm, add-zero, zero-add, zero-div, zero-mul, one-mul, mul-comm, pow-suc, le-of-eq, le-trans, le-refl, le-of-lt, mod-one}
+use native.Mathlib.Numerals.{add-one, one-add}
 use borrow.Author.Tests.{le-leb, lt-leb}
 use lib.Arith.{digits-lt}
 use lib.Dec.{leb, lit<}
 use lib.ListN.{length, getD, take}
+use lib.Pow.{mod-pow-add}
 use lib.Seq.{take-nil, take-all}
 use Rattle.row.specs.Choice.{if_then_else_}
 use Rattle.row.specs.Voting.{bitAt, holders, votedBit, votedBelow}
@@ -61,3 +62,14 @@ pub counted-rows : (rows : List ℕ) (count counted : ℕ) → length rows ≡ 8
 counted-rows rows count counted e (inl w) = ap (λ (n : ℕ). take n rows) (w .1)
 counted-rows rows count counted e (inr w) =
     ap (λ (n : ℕ). take n rows) (w .1) ∙ take-all 8 rows (le-of-eq e) ∙ sym (take-all count rows (le-trans (le-of-eq e) (w .0)))
+
+-- a number whose bits are the voted ones is the vote
+pub voted-is : (places threshold : ℕ) (rows : List ℕ) (n : ℕ) → ((k : ℕ) → k < places → votedBit threshold rows k ≡ bitAt k n)
+    → votedBelow places threshold rows ≡ n % 2 ^ places
+unfolding votedBelow
+voted-is zero threshold rows n h = sym (mod-one n)
+voted-is (suc place) threshold rows n h =
+    ap₂ _+_ (voted-is place threshold rows n (λ k l. h k (le-of-lt (suc-le-suc l)))) (ap (λ (b : ℕ). b * 2 ^ place) (h place (le-refl (suc place))))
+    ∙ add-comm (n % 2 ^ place) (bitAt place n * 2 ^ place)
+    ∙ sym (mod-pow-add n 1 place)
+    ∙ ap (λ (j : ℕ). n % 2 ^ j) (one-add place)

@@ -1,0 +1,32 @@
+// Runs document 01's worked rows, and further vectors, against the code of `row`.
+// Each line has what must be, what is, and the verdict. What must be is written out: from document
+// 01, or worked out from its masks apart from `row`.
+mod between;
+mod codes;
+mod damage;
+mod double_damage;
+mod print;
+mod read_lines;
+mod samples;
+mod single_bits;
+mod tally;
+mod vote_places;
+mod votes;
+mod worked_rows;
+mod write_lines;
+mod writes;
+
+fn main() {
+    print::text(b"The code of row against document 01: what must be, what is, and the verdict\n");
+    let start = tally::nothing_yet();
+    let worked = worked_rows::run(start);
+    let coded = codes::run(worked);
+    let damaged = damage::run(coded);
+    let doubly_damaged = double_damage::run(damaged);
+    let written = writes::run(doubly_damaged);
+    let rewritten = between::run(written);
+    let over_single_bits = single_bits::run(rewritten);
+    let voted = votes::run(over_single_bits);
+    let all = vote_places::run(voted);
+    tally::last_line(all);
+}
