@@ -11,7 +11,7 @@ use lib.Arith.{lt-one}
 use lib.Bits.{bitXor, differ, xor-shr}
 use lib.Count.{ones, onesIn, ones-step}
 use lib.Dec.{T, ltb, ltb→lt}
-use lib.Pow.{shr-shr, shr-lt, mod-mod-pow, field}
+use lib.Pow.{shr-shr, mod-mod-pow, field}
 use Rattle.row.specs.Code.{setBits, parity}
 use Rattle.row.specs.Voting.{bitAt}
 use Rattle.row.proofs.Digits.{both-left, both-right, equal2, equal3, at-digits2}
