@@ -49,9 +49,12 @@ fourApart a b ha hb different =
 -- two rows are no further apart than by way of a third
 by-way : (a b c : ℕ) → distance a b ≤ distance a c + distance b c
 unfolding setBits
-by-way a b c = ones-at-most 24 (bitXor a c) (bitXor b c) (bitXor a b)
+by-way a b c =
+    ones-at-most 24 (bitXor a c) (bitXor b c) (bitXor a b)
     (λ k l. simp bit-xor
-    (leb→le _ _ (at-digits3 (λ x y z. leb (differ x y) (differ x z + differ y z)) tt (bitAt k a) (bitAt k b) (bitAt k c) (bit-lt k a) (bit-lt k b) (bit-lt k c))))
+    (leb→le _ _
+    (at-digits3 (λ x y z. leb (differ x y) (differ x z + differ y z)) tt
+    (bitAt k a) (bitAt k b) (bitAt k c) (bit-lt k a) (bit-lt k b) (bit-lt k c))))
 
 pub oneValue : OneValue
 oneValue row a b near-a near-b = go (eqb a b) refl

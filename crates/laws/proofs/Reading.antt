@@ -9,7 +9,7 @@ use native.Mathlib.Omega.{arith}
 use borrow.Author.Tests.{eqb-true, eq-eqb, ne-eqb, lt-ltb}
 use lib.Bits.{bitXor, xor-lt, xor-mod, xor-self, xor-shr, xor-zero-r}
 use lib.Count.{onesIn}
-use lib.Dec.{eqb, leb, ltb, eqb→eq, leb→le, ltb→lt}
+use lib.Dec.{eqb, leb, ltb, eqb→eq, leb→le, ltb→lt, lit≤}
 use lib.Pow.{pow-lt, pow-pos}
 use Rattle.row.specs.Answers.{refused, found}
 use Rattle.row.specs.Code.{setBits, distance, parity, masks, withCheck, withChecks, code, flipped, plain, inverted}
@@ -18,7 +18,7 @@ use Rattle.row.specs.declared.answer.Answer.{Answer}
 use Rattle.row.specs.declared.answer.Condition.{Condition}
 use Rattle.row.specs.declared.answer.Condition.the-variants.{Clean, Repaired}
 use Rattle.row.proofs.Codes.{code-data, code-lt}
-use Rattle.row.proofs.Counts.{ones-split, one-set}
+use Rattle.row.proofs.Counts.{ones-split, ZeroOrPower, one-set}
 use Rattle.row.proofs.Digits.{at-below, at-digits2, equal2}
 use Rattle.row.proofs.Places.{xor-right-comm}
 use Rattle.row.proofs.Syndromes.{xor-cancel, xor-cancel-left, xor-none, syndrome, data-lt, syndrome-linear, code-syndrome, columns, placeBelow, decoded-by-syndrome}
@@ -57,9 +57,9 @@ unfolding decoded
 decoded-code value h = rw (code-data value h, eq-eqb (code value) (code value) refl)
 
 -- the syndrome of each place names it
-named : (place : ℕ) → place < 22 → placeBelow 22 (syndrome (2 ^ place)) ≡ place
+place-named : (place : ℕ) → place < 22 → placeBelow 22 (syndrome (2 ^ place)) ≡ place
 unfolding columns placeBelow syndrome code withChecks withCheck masks parity setBits onesIn
-named place h =
+place-named place h =
     eqb→eq (placeBelow 22 (syndrome (2 ^ place))) place (at-below 22 (λ k. eqb (placeBelow 22 (syndrome (2 ^ k))) k) tt place h)
 
 -- the syndrome of a damaged code is that of the damage
@@ -71,12 +71,12 @@ syndrome-of-damage value damage h =
 decoded-flipped : (value place : ℕ) → Value value → place < 22 → decoded (flippedAt place (code value)) ≡ found value (Repaired place)
 unfolding columns placeBelow
 decoded-flipped value place h l =
-    let damaged : syndrome (2 ^ place) ≡ 0 → ⊥ = λ none. omega (arith, sym (named place l) ∙ ap (placeBelow 22) none) in
+    let damaged : syndrome (2 ^ place) ≡ 0 → ⊥ = λ none. omega (arith, sym (place-named place l) ∙ ap (placeBelow 22) none) in
     decoded-by-syndrome (flippedAt place (code value))
     ∙ rw (
       syndrome-of-damage value (2 ^ place) h,
       ne-eqb (syndrome (2 ^ place)) 0 damaged,
-      named place l,
+      place-named place l,
       lt-ltb place 22 l,
       xor-cancel (code value) (2 ^ place),
       code-data value h,
@@ -126,7 +126,7 @@ zeroOrEight row = go (read (looked row))
     go (repaired value place h l e) = inl refl
     go nothing = inr refl
 
--- a code is no place away from itself, and one from itself with a bit flipped
+-- some bits and the same with one of them flipped
 one-away : (place bits : ℕ) → place < 22 → distance bits (flippedAt place bits) ≤ 1
 unfolding setBits onesIn
 one-away place bits l =
@@ -137,7 +137,7 @@ unfolding setBits onesIn
 sound row = go (read (looked row))
   where
     go : {answer : Answer} → Read (looked row) answer → answer .number ≡ 0 → Near row (answer .value)
-    go (clean value h e) done = (h, rw (e, xor-self (code value)) (leb→le 0 1 tt))
+    go (clean value h e) done = (h, rw (e, xor-self (code value)) (lit≤ tt))
     go (repaired value place h l e) done = (h, rw e (one-away place (code value) l))
     go nothing done = absurd (omega arith)
 
@@ -159,8 +159,7 @@ found-near bits value small h near =
     let damage : ℕ = bitXor (code value) bits in
     go (one-set 22 damage (xor-lt 22 (code value) bits (code-lt value h) small) (omega (arith, ones-split 22 2 damage)))
   where
-    go : (bitXor (code value) bits ≡ 0) ⊎ ((place : ℕ) × (place < 22) × (bitXor (code value) bits ≡ 2 ^ place))
-        → (condition : Condition) × (decoded bits ≡ found value condition)
+    go : ZeroOrPower 22 (bitXor (code value) bits) → (condition : Condition) × (decoded bits ≡ found value condition)
     go (inl same) = (Clean, ap decoded (sym (xor-none (code value) bits same)) ∙ decoded-code value h)
     go (inr (place, l, one)) = (
       Repaired place,
@@ -169,8 +168,8 @@ found-near bits value small h near =
 
 pub complete : Complete
 complete row value near =
-    let read = found-near (looked row) value (mod-lt (upright row) (pow-pos 22)) (near .0) (near .1) in
-    rw (read .1) (refl, refl)
+    let near-read = found-near (looked row) value (mod-lt (upright row) (pow-pos 22)) (near .0) (near .1) in
+    rw (near-read .1) (refl, refl)
 
 pub eightExactly : EightExactly
 eightExactly row = (

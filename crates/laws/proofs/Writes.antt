@@ -17,7 +17,7 @@ use Rattle.row.specs.Writing.{fits, pulses, burnt, kept, eccWritten}
 use Rattle.row.specs.declared.answer.Condition.the-variants.{Clean}
 use Rattle.row.specs.declared.writing.Written.{Written}
 use Rattle.row.proofs.Codes.{code-lt}
-use Rattle.row.proofs.Counts.{ones-sum, one-set}
+use Rattle.row.proofs.Counts.{ones-sum, ZeroOrPower, one-set}
 use Rattle.row.proofs.Digits.{zero-or-one, at-below, equal3}
 use Rattle.row.proofs.Places.{bit-lt, bit-and, bit-or, bit-xor, by-digits, and-assoc, and-or, and-power}
 use Rattle.laws.specs.Writes.{In, ZeroOrNine, ReadsBack, KeepsBits, NineExactly, RefusedKeeps, OneBitFits, SameEcc, SameRaw, PulsesAdd, StandsAlready, InItself, InThrough}
@@ -60,56 +60,56 @@ zeroOrNine old value = go (written old value)
   where
     go : {w : Written} → Ecc old value w → (w .number ≡ 0) ⊎ (w .number ≡ 9)
     go (as-plain p) = inl refl
-    go (as-inverted n i) = inl refl
-    go (as-it-was n m) = inr refl
+    go (as-inverted ¬p i) = inl refl
+    go (as-it-was ¬p ¬i) = inr refl
 
 pub readsBack : ReadsBack
 readsBack old value h = go (written old value)
   where
     go : {w : Written} → Ecc old value w → w .number ≡ 0 → readRow (w .row) ≡ found value Clean
     go (as-plain p) done = ap decoded (looked-plain (code value) (code-lt value h)) ∙ decoded-code value h
-    go (as-inverted n i) done = ap decoded (looked-inverted (code value) (code-lt value h)) ∙ decoded-code value h
-    go (as-it-was n m) done = absurd (omega arith)
+    go (as-inverted ¬p i) done = ap decoded (looked-inverted (code value) (code-lt value h)) ∙ decoded-code value h
+    go (as-it-was ¬p ¬i) done = absurd (omega arith)
 
 pub keepsBits : KeepsBits
 keepsBits old value = (go (written old value), in-shared old (bitOr old value) (and-or old value))
   where
     go : {w : Written} → Ecc old value w → In old (w .row)
     go (as-plain p) = p
-    go (as-inverted n i) = i
-    go (as-it-was n m) = inItself old
+    go (as-inverted ¬p i) = i
+    go (as-it-was ¬p ¬i) = inItself old
 
 pub nineExactly : NineExactly
 nineExactly old value = go (written old value)
   where
     go : {w : Written} → Ecc old value w → (w .number ≡ 9) ↔ ((In old (plain value) → ⊥) × (In old (inverted value) → ⊥))
     go (as-plain p) = (λ nine. absurd (omega arith), λ neither. absurd (neither .0 p))
-    go (as-inverted n i) = (λ nine. absurd (omega arith), λ neither. absurd (neither .1 i))
-    go (as-it-was n m) = (λ nine. (n, m), λ neither. refl)
+    go (as-inverted ¬p i) = (λ nine. absurd (omega arith), λ neither. absurd (neither .1 i))
+    go (as-it-was ¬p ¬i) = (λ nine. (¬p, ¬i), λ neither. refl)
 
 pub refusedKeeps : RefusedKeeps
 refusedKeeps old value = go (written old value)
   where
     go : {w : Written} → Ecc old value w → w .number ≡ 9 → (w .row ≡ old) × (w .pulses ≡ 0)
     go (as-plain p) nine = absurd (omega arith)
-    go (as-inverted n i) nine = absurd (omega arith)
-    go (as-it-was n m) nine = (refl, refl)
+    go (as-inverted ¬p i) nine = absurd (omega arith)
+    go (as-it-was ¬p ¬i) nine = (refl, refl)
 
 pub sameEcc : SameEcc
 sameEcc old between value done over = go (written old value) done
   where
     go : {w : Written} → Ecc old value w → w .number ≡ 0 → In between (w .row)
         → (eccWritten between value .number ≡ 0) × (eccWritten between value .row ≡ w .row)
-    go (as-plain p) zero-given under = rw under (refl, refl)
-    go (as-inverted n i) zero-given under =
+    go (as-plain p) done under = rw under (refl, refl)
+    go (as-inverted ¬p i) done under =
         let still : fits between (plain value) ≡ false =
-        ne-eqb (bitAnd between (plain value)) between (λ e. n (inThrough old between (plain value) over (in-shared between (plain value) e))) in
+        ne-eqb (bitAnd between (plain value)) between (λ e. ¬p (inThrough old between (plain value) over (in-shared between (plain value) e))) in
         rw (still, under) (refl, refl)
-    go (as-it-was n m) zero-given under = absurd (omega arith)
+    go (as-it-was ¬p ¬i) done under = absurd (omega arith)
 
 -- ---- one bit set beforehand
 
--- every bit of a row is set
+-- what flips a row has every bit
 all-set : (place : ℕ) → place < 24 → bitAt place 0xffffff ≡ 1
 all-set place h = eqb→eq (bitAt place 0xffffff) 1 (at-below 24 (λ k. eqb (bitAt k 0xffffff) 1) tt place h)
 
@@ -126,7 +126,7 @@ in-either old row small few = go (one-set 24 old small few)
     at-place place l (inl clear) = inr (in-at place (flipped row) (bit-xor place row 0xffffff ∙ ap₂ differ clear (all-set place l)))
     at-place place l (inr set) = inl (in-at place row set)
 
-    go : (old ≡ 0) ⊎ ((place : ℕ) × (place < 24) × (old ≡ 2 ^ place)) → In old row ⊎ In old (flipped row)
+    go : ZeroOrPower 24 old → In old row ⊎ In old (flipped row)
     go (inl none) = inl (rw none)
     go (inr (place, l, one)) = rw one (at-place place l (zero-or-one (bitAt place row) (bit-lt place row)))
 
@@ -135,9 +135,9 @@ oneBitFits old value small h few = go (written old value) (in-either old (plain 
   where
     go : {w : Written} → Ecc old value w → In old (plain value) ⊎ In old (inverted value) → w .number ≡ 0
     go (as-plain p) either = refl
-    go (as-inverted n i) either = refl
-    go (as-it-was n m) (inl p) = absurd (n p)
-    go (as-it-was n m) (inr i) = absurd (m i)
+    go (as-inverted ¬p i) either = refl
+    go (as-it-was ¬p ¬i) (inl p) = absurd (¬p p)
+    go (as-it-was ¬p ¬i) (inr i) = absurd (¬i i)
 
 -- ---- a write made again
 
@@ -153,7 +153,7 @@ sameRaw old between value over under =
 
 -- ---- pulses
 
--- of three rows, each in the next
+-- of any three rows, made each in the next
 pulses-through : (a b c : ℕ)
     → pulses (bitAnd a (bitAnd b c)) (bitAnd b c) + pulses (bitAnd b c) c ≡ pulses (bitAnd a (bitAnd b c)) c
 unfolding pulses setBits

@@ -1,4 +1,4 @@
--- Counting set bits: place by place, of two parts, of an exclusive or; and parity, which folds.
+-- Counting set bits: place by place, of two parts, of an exclusive or; numbers of few set bits; and parity, which folds.
 -- Assumes nothing.
 use mathlib.Core.Bool.{Bool, _&&_}
 use mathlib.Core.Logic.{_⊎_, inl, inr}
@@ -14,7 +14,7 @@ use lib.Dec.{T, ltb, ltb→lt}
 use lib.Pow.{shr-shr, mod-mod-pow, field}
 use Rattle.row.specs.Code.{setBits, parity}
 use Rattle.row.specs.Voting.{bitAt}
-use Rattle.row.proofs.Digits.{both-left, both-right, equal2, equal3, at-digits2}
+use Rattle.row.proofs.Digits.{both-left, both-right, zero-or-one, equal2, equal3, at-digits2}
 use Rattle.row.proofs.Places.{two-pos, bit-lowest, bit-half, xor-lowest}
 
 -- ---- counts, place by place
@@ -76,7 +76,6 @@ ones-counted (suc d) n h =
 
 -- ---- few set bits
 
--- none set: 0
 pub none-set : (d n : ℕ) → n < 2 ^ d → onesIn d n ≤ 0 → n ≡ 0
 unfolding onesIn
 none-set zero n h l = lt-one h
@@ -84,21 +83,22 @@ none-set (suc d) n h l =
     let rest : n / 2 ≡ 0 = none-set d (n / 2) (omega arith) (omega arith) in
     omega arith
 
--- at most one set: 0 or a power of two
-pub one-set : (d n : ℕ) → n < 2 ^ d → onesIn d n ≤ 1 → (n ≡ 0) ⊎ ((place : ℕ) × (place < d) × (n ≡ 2 ^ place))
+-- 0, or the power of two of one of d places
+abbrev pub ZeroOrPower : ℕ → ℕ → Type 0
+ZeroOrPower d n = (n ≡ 0) ⊎ ((place : ℕ) × (place < d) × (n ≡ 2 ^ place))
+
+pub one-set : (d n : ℕ) → n < 2 ^ d → onesIn d n ≤ 1 → ZeroOrPower d n
 unfolding onesIn
 one-set zero n h l = inl (lt-one h)
-one-set (suc d) n h l = go (n % 2) refl (one-set d (n / 2) (omega arith))
+one-set (suc d) n h l = go (zero-or-one (n % 2) (mod-lt n two-pos)) (one-set d (n / 2) (omega arith))
   where
-    go : (lowest : ℕ) → n % 2 ≡ lowest
-        → (onesIn d (n / 2) ≤ 1 → (n / 2 ≡ 0) ⊎ ((place : ℕ) × (place < d) × (n / 2 ≡ 2 ^ place)))
-        → (n ≡ 0) ⊎ ((place : ℕ) × (place < suc d) × (n ≡ 2 ^ place))
-    go zero e rest = above (rest (omega arith))
-      where
-        above : (n / 2 ≡ 0) ⊎ ((place : ℕ) × (place < d) × (n / 2 ≡ 2 ^ place)) → (n ≡ 0) ⊎ ((place : ℕ) × (place < suc d) × (n ≡ 2 ^ place))
-        above (inl none) = inl (omega arith)
-        above (inr one) = inr (suc (one .0), omega arith, omega arith)
-    go (suc lowest) e rest =
+    doubled : n % 2 ≡ 0 → ZeroOrPower d (n / 2) → ZeroOrPower (suc d) n
+    doubled even (inl none) = inl (omega arith)
+    doubled even (inr one) = inr (suc (one .0), omega arith, omega arith)
+
+    go : (n % 2 ≡ 0) ⊎ (n % 2 ≡ 1) → (onesIn d (n / 2) ≤ 1 → ZeroOrPower d (n / 2)) → ZeroOrPower (suc d) n
+    go (inl even) rest = doubled even (rest (omega arith))
+    go (inr odd) rest =
         let none : n / 2 ≡ 0 = none-set d (n / 2) (omega arith) (omega arith) in
         inr (0, omega arith, omega arith)
 
@@ -115,14 +115,14 @@ at-few (suc d) zero f t n h l = subst (λ (m : ℕ). T (f m)) (sym (none-set (su
 at-few (suc d) (suc few) f t n h l =
     let evens : Bool = allFew d (suc few) (λ m. f (m * 2)) in
     let odds : Bool = allFew d few (λ m. f (m * 2 + 1)) in
-    go (n % 2) refl
+    go (zero-or-one (n % 2) (mod-lt n two-pos))
     (at-few d (suc few) (λ m. f (m * 2)) (both-left evens odds t) (n / 2) (omega arith))
     (at-few d few (λ m. f (m * 2 + 1)) (both-right evens odds t) (n / 2) (omega arith))
   where
-    go : (lowest : ℕ) → n % 2 ≡ lowest
+    go : (n % 2 ≡ 0) ⊎ (n % 2 ≡ 1)
         → (onesIn d (n / 2) ≤ suc few → T (f (n / 2 * 2))) → (onesIn d (n / 2) ≤ few → T (f (n / 2 * 2 + 1))) → T (f n)
-    go zero e even odd = subst (λ (m : ℕ). T (f m)) (omega arith) (even (omega arith))
-    go (suc lowest) e even odd = subst (λ (m : ℕ). T (f m)) (omega arith) (odd (omega arith))
+    go (inl even) at-even at-odd = subst (λ (m : ℕ). T (f m)) (omega arith) (at-even (omega arith))
+    go (inr odd) at-even at-odd = subst (λ (m : ℕ). T (f m)) (omega arith) (at-odd (omega arith))
 
 -- ---- parity
 

@@ -117,7 +117,7 @@ and-assoc =
     (λ a b c. bitAnd (bitAnd a b) c) (λ a b c. bitAnd a (bitAnd b c))
     (λ k a b c. simp bit-and) (λ k a b c. simp bit-and)
 
--- what a row shares with one more bit set beside it
+-- more bits set beside a row's own leave its own
 pub and-or : (a b : ℕ) → bitAnd a (bitOr a b) ≡ a
 and-or a b =
     by-digits (λ x y z. min x (max x y)) (λ x y z. x) tt
