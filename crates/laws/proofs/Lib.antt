@@ -1,1 +1,5 @@
 pub mod Worked
+pub mod Codes
+pub mod Reading
+pub mod Writes
+pub mod Votes

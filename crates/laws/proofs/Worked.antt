@@ -4,7 +4,6 @@ use mathlib.Core.Path.{refl}
 use lib.Count.{onesIn}
 use Rattle.row.specs.Code.{setBits, parity, masks, withCheck, withChecks, code}
 use Rattle.row.specs.Reading.{repairedBelow, decoded}
-use Rattle.row.specs.Writing.{pulses}
 use Rattle.laws.specs.Worked.{WorkedRows}
 
 pub workedRows : WorkedRows

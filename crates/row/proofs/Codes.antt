@@ -1,11 +1,11 @@
 -- The code of a value: its size, its data, and that it is linear over exclusive or.
 -- Assumes nothing.
-use mathlib.Core.Path.{_≡_, refl, sym, ap, ap₂, _∙_, subst}
+use mathlib.Core.Path.{_≡_, refl, sym, ap, ap₂, _∙_}
 use mathlib.Core.List.{List, [], _∷_}
-use Prim.Native.Nat.{ℕ, zero, suc, _+_, _*_, _%_, _^_, _<_}
+use Prim.Native.Nat.{ℕ, suc, _+_, _*_, _%_, _^_, _<_}
 use native.Mathlib.Nat.{mul-comm, pow-suc, suc-add, mod-eq-of-lt}
 use lib.Arith.{digits-lt, digits-mod}
-use lib.Bits.{bitAnd, bitOr, bitXor, differ, or-shifted-r, xor-block, xor-lt}
+use lib.Bits.{bitAnd, bitXor, differ, or-shifted-r, xor-block, xor-lt}
 use lib.Pow.{mod-mod-pow}
 use Rattle.row.specs.Code.{parity, withCheck, withChecks, masks, code}
 use Rattle.row.proofs.Counts.{parity-xor, parity-lt}

@@ -1,5 +1,7 @@
--- Counting set bits: place by place, of two parts, of an exclusive or; and parity, which folds.
+-- Counting set bits: place by place, of two parts, of an exclusive or; numbers of few set bits; and parity, which folds.
 -- Assumes nothing.
+use mathlib.Core.Bool.{Bool, _&&_}
+use mathlib.Core.Logic.{_⊎_, inl, inr}
 use mathlib.Core.Path.{_≡_, refl, sym, ap, ap₂, _∙_, subst}
 use Prim.Native.Nat.{ℕ, zero, suc, _+_, _*_, _/_, _%_, _^_, _≤_, _<_, zero-le, suc-le-suc}
 use native.Mathlib.Nat.{mod-lt, mod-mod, add-mod, add-zero, zero-add, add-assoc, suc-add, div-one, div-eq-of-lt}
@@ -8,11 +10,11 @@ use native.Mathlib.Omega.{arith}
 use lib.Arith.{lt-one}
 use lib.Bits.{bitXor, differ, xor-shr}
 use lib.Count.{ones, onesIn, ones-step}
-use lib.Dec.{ltb, ltb→lt}
-use lib.Pow.{shr-shr, shr-lt, mod-mod-pow, field}
+use lib.Dec.{T, ltb, ltb→lt}
+use lib.Pow.{shr-shr, mod-mod-pow, field}
 use Rattle.row.specs.Code.{setBits, parity}
 use Rattle.row.specs.Voting.{bitAt}
-use Rattle.row.proofs.Digits.{equal2, equal3, at-digits2}
+use Rattle.row.proofs.Digits.{both-left, both-right, zero-or-one, equal2, equal3, at-digits2}
 use Rattle.row.proofs.Places.{two-pos, bit-lowest, bit-half, xor-lowest}
 
 -- ---- counts, place by place
@@ -70,7 +72,57 @@ pub ones-counted : (d n : ℕ) → n < 2 ^ d → ones n ≡ onesIn d n
 unfolding onesIn ones
 ones-counted zero n h = ap ones (lt-one h)
 ones-counted (suc d) n h =
-    ones-step n ∙ ap (λ (x : ℕ). n % 2 + x) (ones-counted d (n / 2) (shr-lt d 1 (subst (λ (j : ℕ). n < 2 ^ j) (sym (add-one d)) h)))
+    ones-step n ∙ ap (λ (x : ℕ). n % 2 + x) (ones-counted d (n / 2) (omega arith))
+
+-- ---- few set bits
+
+pub none-set : (d n : ℕ) → n < 2 ^ d → onesIn d n ≤ 0 → n ≡ 0
+unfolding onesIn
+none-set zero n h l = lt-one h
+none-set (suc d) n h l =
+    let rest : n / 2 ≡ 0 = none-set d (n / 2) (omega arith) (omega arith) in
+    omega arith
+
+-- 0, or the power of two of one of d places
+abbrev pub ZeroOrPower : ℕ → ℕ → Type 0
+ZeroOrPower d n = (n ≡ 0) ⊎ ((place : ℕ) × (place < d) × (n ≡ 2 ^ place))
+
+pub one-set : (d n : ℕ) → n < 2 ^ d → onesIn d n ≤ 1 → ZeroOrPower d n
+unfolding onesIn
+one-set zero n h l = inl (lt-one h)
+one-set (suc d) n h l = go (zero-or-one (n % 2) (mod-lt n two-pos)) (one-set d (n / 2) (omega arith))
+  where
+    doubled : n % 2 ≡ 0 → ZeroOrPower d (n / 2) → ZeroOrPower (suc d) n
+    doubled even (inl none) = inl (omega arith)
+    doubled even (inr one) = inr (suc (one .0), omega arith, omega arith)
+
+    go : (n % 2 ≡ 0) ⊎ (n % 2 ≡ 1) → (onesIn d (n / 2) ≤ 1 → ZeroOrPower d (n / 2)) → ZeroOrPower (suc d) n
+    go (inl even) rest = doubled even (rest (omega arith))
+    go (inr odd) rest =
+        let none : n / 2 ≡ 0 = none-set d (n / 2) (omega arith) (omega arith) in
+        inr (0, omega arith, omega arith)
+
+-- a test passes at each number of d places of which at most `few` are set
+abbrev pub allFew : ℕ → ℕ → (ℕ → Bool) → Bool
+allFew zero few f = f 0
+allFew (suc d) zero f = f 0
+allFew (suc d) (suc few) f = allFew d (suc few) (λ n. f (n * 2)) && allFew d few (λ n. f (n * 2 + 1))
+
+pub at-few : (d few : ℕ) (f : ℕ → Bool) → T (allFew d few f) → (n : ℕ) → n < 2 ^ d → onesIn d n ≤ few → T (f n)
+unfolding onesIn
+at-few zero few f t n h l = subst (λ (m : ℕ). T (f m)) (sym (lt-one h)) t
+at-few (suc d) zero f t n h l = subst (λ (m : ℕ). T (f m)) (sym (none-set (suc d) n h l)) t
+at-few (suc d) (suc few) f t n h l =
+    let evens : Bool = allFew d (suc few) (λ m. f (m * 2)) in
+    let odds : Bool = allFew d few (λ m. f (m * 2 + 1)) in
+    go (zero-or-one (n % 2) (mod-lt n two-pos))
+    (at-few d (suc few) (λ m. f (m * 2)) (both-left evens odds t) (n / 2) (omega arith))
+    (at-few d few (λ m. f (m * 2 + 1)) (both-right evens odds t) (n / 2) (omega arith))
+  where
+    go : (n % 2 ≡ 0) ⊎ (n % 2 ≡ 1)
+        → (onesIn d (n / 2) ≤ suc few → T (f (n / 2 * 2))) → (onesIn d (n / 2) ≤ few → T (f (n / 2 * 2 + 1))) → T (f n)
+    go (inl even) at-even at-odd = subst (λ (m : ℕ). T (f m)) (omega arith) (at-even (omega arith))
+    go (inr odd) at-even at-odd = subst (λ (m : ℕ). T (f m)) (omega arith) (at-odd (omega arith))
 
 -- ---- parity
 

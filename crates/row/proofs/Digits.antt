@@ -1,7 +1,7 @@
 -- Equations between digits, which are 0 or 1, settled by trying every case: a test that antt computes.
 -- Assumes nothing.
 use mathlib.Core.Logic.{_⊎_, inl, inr}
-use mathlib.Core.Path.{_≡_, sym, subst}
+use mathlib.Core.Path.{_≡_, refl, sym, subst}
 use mathlib.Core.Bool.{Bool, true, false, _&&_}
 use Prim.Native.Nat.{ℕ, zero, suc, _<_}
 use native.Mathlib.Nat.{le-of-suc-le-suc, not-suc-le-zero, eq-or-lt-of-le}
@@ -15,14 +15,21 @@ pub both-right : (a b : Bool) → T (a && b) → T b
 both-right true b t = t
 both-right false b t = absurd t
 
+pub zero-or-one : (x : ℕ) → x < 2 → (x ≡ 0) ⊎ (x ≡ 1)
+zero-or-one zero h = inl refl
+zero-or-one (suc zero) h = inr refl
+zero-or-one (suc (suc x)) h = absurd (not-suc-le-zero (le-of-suc-le-suc (le-of-suc-le-suc h)))
+
 -- a test of a digit passes at 0 and at 1, so at every digit
 abbrev pub either : (ℕ → Bool) → Bool
 either f = f 0 && f 1
 
 pub at-digit : (f : ℕ → Bool) → T (either f) → (x : ℕ) → x < 2 → T (f x)
-at-digit f t zero h = both-left (f 0) (f 1) t
-at-digit f t (suc zero) h = both-right (f 0) (f 1) t
-at-digit f t (suc (suc x)) h = absurd (not-suc-le-zero (le-of-suc-le-suc (le-of-suc-le-suc h)))
+at-digit f t x h = go (zero-or-one x h)
+  where
+    go : (x ≡ 0) ⊎ (x ≡ 1) → T (f x)
+    go (inl e) = rw e (both-left (f 0) (f 1) t)
+    go (inr e) = rw e (both-right (f 0) (f 1) t)
 
 abbrev pub tried2 : (ℕ → ℕ → Bool) → Bool
 tried2 f = either (λ x. either (f x))

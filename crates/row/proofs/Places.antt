@@ -1,13 +1,16 @@
 -- Rows bit by bit: what each operation does at each place, that equal bits make equal rows, and the laws of the operations that follow.
 -- Assumes nothing.
+use mathlib.Core.Bool.{Bool, true, false}
 use mathlib.Core.Path.{_≡_, refl, sym, ap, ap₂, _∙_}
-use Prim.Native.Nat.{ℕ, zero, suc, _+_, _*_, _/_, _%_, _^_, _≤_, _<_, min, max}
-use native.Mathlib.Nat.{zero-lt-suc, mod-lt, div-one, div-add-mod', le-max-left, le-max-right}
+use Prim.Native.Nat.{ℕ, zero, suc, _+_, _-_, _*_, _/_, _%_, _^_, _≤_, _<_, min, max}
+use native.Mathlib.Nat.{zero-lt-suc, add-zero, mod-lt, div-one, div-add-mod', div-eq-of-lt, lt-of-lt-of-le, le-max-left, le-max-right}
 use native.Mathlib.Numerals.{one-add}
+use native.Mathlib.Omega.{arith}
+use borrow.Author.Tests.{ltb-true, ltb-false}
 use lib.Arith.{half-le, le-zero, digits-mod}
-use lib.Bits.{bitAnd, bitOr, bitXor, differ, and-step, or-step, xor-step, and-shr, or-shr, xor-shr}
+use lib.Bits.{bitAnd, bitOr, bitXor, differ, and-step, or-step, xor-step, and-comm, and-mask, and-block, and-shr, or-shr, xor-shr}
 use lib.Dec.{T, ltb, eqb, ltb→lt}
-use lib.Pow.{shr-shr}
+use lib.Pow.{pow-pos, pow-mono, split, shr-shr, field, mod-mod-pow}
 use Rattle.row.specs.Voting.{bitAt}
 use Rattle.row.proofs.Digits.{tried2, tried3, at-digits2, equal3}
 
@@ -35,6 +38,24 @@ same-bits a b = go (max a b) a b (le-max-left a b) (le-max-right a b)
         (go n (x / 2) (y / 2) (half-le hx) (half-le hy) (λ k. bit-half k x ∙ e (suc k) ∙ sym (bit-half k y)))
         (sym (bit-lowest x) ∙ e 0 ∙ bit-lowest y)
         ∙ div-add-mod' y 2
+
+-- a bit of the d low places, and a bit above a number of d places
+pub bit-low : (d k n : ℕ) → k < d → bitAt k (n % 2 ^ d) ≡ bitAt k n
+bit-low d k n h =
+    let between : ℕ = d - suc k in
+    let width : d ≡ between + 1 + k = omega arith in
+    ap (λ (w : ℕ). n % 2 ^ w / 2 ^ k % 2) width ∙ ap (λ (x : ℕ). x % 2) (field n (between + 1) k) ∙ mod-mod-pow (n / 2 ^ k) between 1
+
+bit-above : (d k n : ℕ) → n < 2 ^ d → d ≤ k → bitAt k n ≡ 0
+bit-above d k n h l = ap (λ (x : ℕ). x % 2) (div-eq-of-lt (lt-of-lt-of-le h (pow-mono l)))
+
+-- two numbers of d places that are equal at each of them are equal
+pub same-below : (d a b : ℕ) → a < 2 ^ d → b < 2 ^ d → ((k : ℕ) → k < d → bitAt k a ≡ bitAt k b) → a ≡ b
+same-below d a b ha hb e = same-bits a b (λ k. go k (ltb k d) refl)
+  where
+    go : (k : ℕ) (t : Bool) → ltb k d ≡ t → bitAt k a ≡ bitAt k b
+    go k true below = e k (ltb-true k d below)
+    go k false above = bit-above d k a ha (ltb-false k d above) ∙ sym (bit-above d k b hb (ltb-false k d above))
 
 -- an operation that goes digit by digit does at each place what it does to two digits
 module _ (op f : ℕ → ℕ → ℕ)
@@ -83,3 +104,30 @@ xor-assoc =
     by-digits (λ x y z. differ (differ x y) z) (λ x y z. differ x (differ y z)) tt
     (λ a b c. bitXor (bitXor a b) c) (λ a b c. bitXor a (bitXor b c))
     (λ k a b c. simp bit-xor) (λ k a b c. simp bit-xor)
+
+pub xor-right-comm : (a b c : ℕ) → bitXor (bitXor a b) c ≡ bitXor (bitXor a c) b
+xor-right-comm =
+    by-digits (λ x y z. differ (differ x y) z) (λ x y z. differ (differ x z) y) tt
+    (λ a b c. bitXor (bitXor a b) c) (λ a b c. bitXor (bitXor a c) b)
+    (λ k a b c. simp bit-xor) (λ k a b c. simp bit-xor)
+
+pub and-assoc : (a b c : ℕ) → bitAnd (bitAnd a b) c ≡ bitAnd a (bitAnd b c)
+and-assoc =
+    by-digits (λ x y z. min (min x y) z) (λ x y z. min x (min y z)) tt
+    (λ a b c. bitAnd (bitAnd a b) c) (λ a b c. bitAnd a (bitAnd b c))
+    (λ k a b c. simp bit-and) (λ k a b c. simp bit-and)
+
+-- more bits set beside a row's own leave its own
+pub and-or : (a b : ℕ) → bitAnd a (bitOr a b) ≡ a
+and-or a b =
+    by-digits (λ x y z. min x (max x y)) (λ x y z. x) tt
+    (λ a b c. bitAnd a (bitOr a b)) (λ a b c. a)
+    (λ k a b c. simp (bit-and, bit-or)) (λ k a b c. refl) a b 0
+
+-- what a row shares with a power of two
+pub and-power : (k n : ℕ) → bitAnd (2 ^ k) n ≡ bitAt k n * 2 ^ k
+and-power k n =
+    let one : 2 ^ k ≡ 1 * 2 ^ k + 0 = omega arith in
+    ap₂ bitAnd one (sym (split n k)) ∙ and-block k 1 (n / 2 ^ k) 0 (n % 2 ^ k) (pow-pos k) (mod-lt n (pow-pos k))
+    ∙ add-zero (bitAnd 1 (n / 2 ^ k) * 2 ^ k)
+    ∙ ap (λ (bit : ℕ). bit * 2 ^ k) (and-comm 1 (n / 2 ^ k) ∙ and-mask (n / 2 ^ k) 1)

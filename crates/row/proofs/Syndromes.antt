@@ -18,13 +18,16 @@ use Rattle.row.specs.Reading.{dataOf, isCode, flippedAt, repairedBelow, 
 use Rattle.row.specs.declared.answer.Answer.{Answer}
 use Rattle.row.specs.declared.answer.Condition.the-variants.{Clean, Repaired}
 use Rattle.row.proofs.Codes.{code-linear, code-data, code-lt}
-use Rattle.row.proofs.Digits.{allBelow, at-below}
+use Rattle.row.proofs.Digits.{at-below}
 use Rattle.row.proofs.Places.{xor-assoc}
 
 -- ---- exclusive or cancels
 
 pub xor-cancel : (a b : ℕ) → bitXor (bitXor a b) b ≡ a
 xor-cancel a b = xor-assoc a b b ∙ ap (bitXor a) (xor-self b) ∙ xor-zero-r a
+
+pub xor-cancel-left : (a b : ℕ) → bitXor a (bitXor a b) ≡ b
+xor-cancel-left a b = sym (xor-assoc a a b) ∙ ap (λ (x : ℕ). bitXor x b) (xor-self a)
 
 pub xor-none : (a b : ℕ) → bitXor a b ≡ 0 → a ≡ b
 xor-none a b e = sym (xor-cancel a b) ∙ ap (λ (x : ℕ). bitXor x b) e
@@ -40,7 +43,7 @@ xor-swap a b c d =
 unfoldable pub syndrome : ℕ → ℕ
 syndrome bits = bitXor bits (code (bits % 2 ^ 16)) / 2 ^ 16
 
-data-lt : (bits : ℕ) → bits % 2 ^ 16 < 2 ^ 16
+pub data-lt : (bits : ℕ) → bits % 2 ^ 16 < 2 ^ 16
 data-lt bits = mod-lt bits (pow-pos 16)
 
 pub syndrome-linear : (a b : ℕ) → syndrome (bitXor a b) ≡ bitXor (syndrome a) (syndrome b)

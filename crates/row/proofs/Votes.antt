@@ -1,20 +1,21 @@
 -- Counting who has a bit, row by row, and the vote as a number made of its bits.
 -- Assumes nothing.
-use mathlib.Core.Path.{_≡_, refl, sym, ap, ap₂, _∙_}
+use mathlib.Core.Path.{_≡_, sym, ap, ap₂, _∙_}
 use mathlib.Core.Bool.{Bool, true, false}
 use mathlib.Core.Logic.{_⊎_, inl, inr}
 use mathlib.Core.List.{List, [], _∷_}
-use Prim.Native.Nat.{ℕ, zero, suc, _+_, _*_, _/_, _%_, _^_, _≤_, _<_, suc-le-suc}
-use native.Mathlib.Nat.{add-assoc, add-comm, add-zero, zero-add, zero-div, zero-mul, one-mul, mul-comm, pow-suc, le-of-eq, le-trans, le-refl, le-of-lt, mod-one}
+use Prim.Native.Nat.{ℕ, zero, suc, _+_, _*_, _%_, _^_, _≤_, _<_, suc-le-suc}
+use native.Mathlib.Nat.{add-assoc, add-comm, add-zero, zero-add, zero-div, zero-mul, one-mul, mul-comm, pow-suc, mod-one, mod-eq-of-lt, le-refl, le-of-lt, le-of-eq, le-trans, le-of-suc-le-suc, not-suc-le-zero, eq-or-lt-of-le}
 use native.Mathlib.Numerals.{add-one, one-add}
 use borrow.Author.Tests.{le-leb, lt-leb}
 use lib.Arith.{digits-lt}
 use lib.Dec.{leb, lit<}
 use lib.ListN.{length, getD, take}
-use lib.Pow.{mod-pow-add}
+use lib.Pow.{high, low, mod-pow-add}
 use lib.Seq.{take-nil, take-all}
 use Rattle.row.specs.Choice.{if_then_else_}
 use Rattle.row.specs.Voting.{bitAt, holders, votedBit, votedBelow}
+use Rattle.row.proofs.Places.{bit-low}
 
 -- one row more; past the last row there is nothing to count
 pub holders-more : (place : ℕ) (rows : List ℕ) (i : ℕ)
@@ -42,6 +43,27 @@ unfolding votedBelow
 voted-lt zero threshold rows = lit< tt
 voted-lt (suc place) threshold rows =
     rw (add-comm, pow-suc, mul-comm (2 ^ place) 2) (digits-lt (voted-bit-lt threshold rows place) (voted-lt place threshold rows))
+
+-- each voted bit stands at its place
+pub bit-voted : (places place threshold : ℕ) (rows : List ℕ) → place < places
+    → bitAt place (votedBelow places threshold rows) ≡ votedBit threshold rows place
+unfolding votedBelow
+bit-voted zero place threshold rows h = absurd (not-suc-le-zero h)
+bit-voted (suc top) place threshold rows h =
+    rw add-comm (go (eq-or-lt-of-le (le-of-suc-le-suc h)) (bit-voted top place threshold rows))
+  where
+    bit : ℕ
+    bit = votedBit threshold rows top
+
+    below : ℕ
+    below = votedBelow top threshold rows
+
+    go : (place ≡ top) ⊎ (place < top) → (place < top → bitAt place below ≡ votedBit threshold rows place)
+        → bitAt place (bit * 2 ^ top + below) ≡ votedBit threshold rows place
+    go (inl e) rest =
+        rw (e, high bit top (voted-lt top threshold rows)) (mod-eq-of-lt (voted-bit-lt threshold rows top))
+    go (inr l) rest =
+        sym (bit-low top place (bit * 2 ^ top + below) l) ∙ ap (bitAt place) (low bit top (voted-lt top threshold rows)) ∙ rest l
 
 -- one bit more, as the code judges it
 pub voted-set : (place threshold : ℕ) (rows : List ℕ) → threshold ≤ holders place rows

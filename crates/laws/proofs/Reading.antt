@@ -1,0 +1,206 @@
+-- Reading a row: the bits that are looked at, what they are read as, and every promise of a read.
+-- Assumes nothing.
+use mathlib.Core.Bool.{Bool, true, false}
+use mathlib.Core.Logic.{_⊎_, inl, inr}
+use mathlib.Core.Path.{_≡_, refl, sym, ap, _∙_, subst}
+use Prim.Native.Nat.{ℕ, zero, suc, _+_, _-_, _*_, _/_, _%_, _^_, _≤_, _<_}
+use native.Mathlib.Nat.{div-eq-of-lt, le-refl, le-of-lt, mod-eq-of-lt, mod-lt}
+use native.Mathlib.Omega.{arith}
+use borrow.Author.Tests.{eqb-true, eq-eqb, ne-eqb, lt-ltb}
+use lib.Bits.{bitXor, xor-lt, xor-mod, xor-self, xor-shr, xor-zero-r}
+use lib.Count.{onesIn}
+use lib.Dec.{eqb, leb, ltb, eqb→eq, leb→le, ltb→lt, lit≤}
+use lib.Pow.{pow-lt, pow-pos}
+use Rattle.row.specs.Answers.{refused, found}
+use Rattle.row.specs.Code.{setBits, distance, parity, masks, withCheck, withChecks, code, flipped, plain, inverted}
+use Rattle.row.specs.Reading.{upright, dataOf, isCode, flippedAt, repairedBelow, decoded, readRow}
+use Rattle.row.specs.declared.answer.Answer.{Answer}
+use Rattle.row.specs.declared.answer.Condition.{Condition}
+use Rattle.row.specs.declared.answer.Condition.the-variants.{Clean, Repaired}
+use Rattle.row.proofs.Codes.{code-data, code-lt}
+use Rattle.row.proofs.Counts.{ones-split, ZeroOrPower, one-set}
+use Rattle.row.proofs.Digits.{at-below, at-digits2, equal2}
+use Rattle.row.proofs.Places.{xor-right-comm}
+use Rattle.row.proofs.Syndromes.{xor-cancel, xor-cancel-left, xor-none, syndrome, data-lt, syndrome-linear, code-syndrome, columns, placeBelow, decoded-by-syndrome}
+use Rattle.laws.specs.Reads.{Value, looked, Near, ZeroOrEight, Sound, Complete, EightExactly, ConditionNames, Corrected, PlainFlag, InvertedFlag}
+
+-- ---- the bits that are looked at
+
+-- bits 23:22 not both set
+as-it-is : (row : ℕ) → row / 2 ^ 22 % 4 < 3 → upright row ≡ row
+as-it-is row other = rw (ne-eqb (row / 2 ^ 22 % 4) 3 (λ both. omega arith))
+
+pub looked-plain : (bits : ℕ) → bits < 2 ^ 22 → looked bits ≡ bits
+looked-plain bits h =
+    ap (λ (row : ℕ). row % 2 ^ 22) (as-it-is bits (omega (arith, div-eq-of-lt h))) ∙ mod-eq-of-lt h
+
+both-set : (bits : ℕ) → bits < 2 ^ 22 → flipped bits / 2 ^ 22 ≡ 3
+both-set bits h = xor-shr bits 0xffffff 22 ∙ ap (λ (top : ℕ). bitXor top 3) (div-eq-of-lt h)
+
+pub looked-inverted : (bits : ℕ) → bits < 2 ^ 22 → looked (flipped bits) ≡ bits
+looked-inverted bits h = rw (both-set bits h, xor-cancel bits 0xffffff) (mod-eq-of-lt h)
+
+-- one of bits 23:22 flipped in a row of either polarity, 0 plain and 1 inverted: the row is looked at as it is
+looked-flag : (row polarity j : ℕ) → polarity < 2 → j < 2 → row / 2 ^ 22 ≡ polarity * 3 → looked (flippedAt (22 + j) row) ≡ row % 2 ^ 22
+looked-flag row polarity j hp hj top =
+    let other : bitXor (polarity * 3) (2 ^ (22 + j) / 2 ^ 22) % 4 < 3 =
+    ltb→lt _ _ (at-digits2 (λ x y. ltb (bitXor (x * 3) (2 ^ (22 + y) / 2 ^ 22) % 4) 3) tt polarity j hp hj) in
+    let below : 2 ^ (22 + j) % 2 ^ 22 ≡ 0 = equal2 (λ x y. 2 ^ (22 + y) % 2 ^ 22) (λ x y. 0) tt polarity j hp hj in
+    ap (λ (bits : ℕ). bits % 2 ^ 22)
+    (as-it-is (flippedAt (22 + j) row) (rw (xor-shr row (2 ^ (22 + j)) 22, top) other))
+    ∙ xor-mod row (2 ^ (22 + j)) 22 ∙ ap (bitXor (row % 2 ^ 22)) below ∙ xor-zero-r (row % 2 ^ 22)
+
+-- ---- what some bits are read as
+
+pub decoded-code : (value : ℕ) → Value value → decoded (code value) ≡ found value Clean
+unfolding decoded
+decoded-code value h = rw (code-data value h, eq-eqb (code value) (code value) refl)
+
+-- the syndrome of each place names it
+place-named : (place : ℕ) → place < 22 → placeBelow 22 (syndrome (2 ^ place)) ≡ place
+unfolding columns placeBelow syndrome code withChecks withCheck masks parity setBits onesIn
+place-named place h =
+    eqb→eq (placeBelow 22 (syndrome (2 ^ place))) place (at-below 22 (λ k. eqb (placeBelow 22 (syndrome (2 ^ k))) k) tt place h)
+
+-- the syndrome of a damaged code is that of the damage
+syndrome-of-damage : (value damage : ℕ) → Value value → syndrome (bitXor (code value) damage) ≡ syndrome damage
+syndrome-of-damage value damage h =
+    syndrome-linear (code value) damage
+    ∙ ap (λ (s : ℕ). bitXor s (syndrome damage)) (code-syndrome (code value) (ap code (sym (code-data value h))))
+
+decoded-flipped : (value place : ℕ) → Value value → place < 22 → decoded (flippedAt place (code value)) ≡ found value (Repaired place)
+unfolding columns placeBelow
+decoded-flipped value place h l =
+    let damaged : syndrome (2 ^ place) ≡ 0 → ⊥ = λ none. omega (arith, sym (place-named place l) ∙ ap (placeBelow 22) none) in
+    decoded-by-syndrome (flippedAt place (code value))
+    ∙ rw (
+      syndrome-of-damage value (2 ^ place) h,
+      ne-eqb (syndrome (2 ^ place)) 0 damaged,
+      place-named place l,
+      lt-ltb place 22 l,
+      xor-cancel (code value) (2 ^ place),
+      code-data value h,
+    )
+
+-- all 22 bits flipped are within one bit of no code
+decoded-all-flipped : (value : ℕ) → Value value → decoded (bitXor (code value) 0x3fffff) ≡ refused 8
+unfolding columns placeBelow syndrome code withChecks withCheck masks parity setBits onesIn
+decoded-all-flipped value h = decoded-by-syndrome (bitXor (code value) 0x3fffff) ∙ rw (syndrome-of-damage value 0x3fffff h)
+
+is-own-code : (bits : ℕ) → isCode bits ≡ true → bits ≡ code (dataOf bits)
+is-own-code bits e = eqb-true bits (code (dataOf bits)) e
+
+-- what some bits are, by what they are read as
+data Read (bits : ℕ) : Answer → Type 0 where
+  clean : (value : ℕ) → Value value → bits ≡ code value → Read bits (found value Clean)
+  repaired : (value place : ℕ) → Value value → place < 22 → bits ≡ flippedAt place (code value) → Read bits (found value (Repaired place))
+  nothing : Read bits (refused 8)
+
+read-below : (places bits : ℕ) → places ≤ 22 → Read bits (repairedBelow places bits)
+unfolding repairedBelow
+read-below zero bits h = nothing
+read-below (suc place) bits h = go (isCode (flippedAt place bits)) refl (read-below place bits (le-of-lt h))
+  where
+    go : (t : Bool) → isCode (flippedAt place bits) ≡ t → Read bits (repairedBelow place bits) → Read bits (repairedBelow (suc place) bits)
+    go true e below =
+        rw (e, repairedBelow)
+        (repaired (dataOf (flippedAt place bits)) place (data-lt (flippedAt place bits)) h
+        (sym (xor-cancel bits (2 ^ place)) ∙ ap (flippedAt place) (is-own-code (flippedAt place bits) e)))
+    go false e below = rw (e, repairedBelow) below
+
+read : (bits : ℕ) → Read bits (decoded bits)
+unfolding decoded
+read bits = go (isCode bits) refl
+  where
+    go : (t : Bool) → isCode bits ≡ t → Read bits (decoded bits)
+    go true e = rw (e, decoded) (clean (dataOf bits) (data-lt bits) (is-own-code bits e))
+    go false e = rw (e, decoded) (read-below 22 bits (le-refl 22))
+
+-- ---- the promises
+
+pub zeroOrEight : ZeroOrEight
+zeroOrEight row = go (read (looked row))
+  where
+    go : {answer : Answer} → Read (looked row) answer → (answer .number ≡ 0) ⊎ (answer .number ≡ 8)
+    go (clean value h e) = inl refl
+    go (repaired value place h l e) = inl refl
+    go nothing = inr refl
+
+-- some bits and the same with one of them flipped
+one-away : (place bits : ℕ) → place < 22 → distance bits (flippedAt place bits) ≤ 1
+unfolding setBits onesIn
+one-away place bits l =
+    rw (xor-cancel-left bits (2 ^ place)) (leb→le _ _ (at-below 22 (λ k. leb (setBits (2 ^ k)) 1) tt place l))
+
+pub sound : Sound
+unfolding setBits onesIn
+sound row = go (read (looked row))
+  where
+    go : {answer : Answer} → Read (looked row) answer → answer .number ≡ 0 → Near row (answer .value)
+    go (clean value h e) done = (h, rw (e, xor-self (code value)) (lit≤ tt))
+    go (repaired value place h l e) done = (h, rw e (one-away place (code value) l))
+    go nothing done = absurd (omega arith)
+
+pub conditionNames : ConditionNames
+conditionNames row = go (read (looked row))
+  where
+    go : {answer : Answer} → Read (looked row) answer → answer .number ≡ 0
+        → ((answer .condition ≡ Clean) × (looked row ≡ code (answer .value)))
+        ⊎ ((place : ℕ) × (place < 22) × (answer .condition ≡ Repaired place) × (looked row ≡ flippedAt place (code (answer .value))))
+    go (clean value h e) done = inl (refl, e)
+    go (repaired value place h l e) done = inr (place, l, refl, e)
+    go nothing done = absurd (omega arith)
+
+-- bits within one place of a value's code are read as that value
+found-near : (bits value : ℕ) → bits < 2 ^ 22 → Value value → distance (code value) bits ≤ 1
+    → (condition : Condition) × (decoded bits ≡ found value condition)
+unfolding setBits
+found-near bits value small h near =
+    let damage : ℕ = bitXor (code value) bits in
+    go (one-set 22 damage (xor-lt 22 (code value) bits (code-lt value h) small) (omega (arith, ones-split 22 2 damage)))
+  where
+    go : ZeroOrPower 22 (bitXor (code value) bits) → (condition : Condition) × (decoded bits ≡ found value condition)
+    go (inl same) = (Clean, ap decoded (sym (xor-none (code value) bits same)) ∙ decoded-code value h)
+    go (inr (place, l, one)) = (
+      Repaired place,
+      ap decoded (sym (xor-cancel-left (code value) bits) ∙ ap (bitXor (code value)) one) ∙ decoded-flipped value place h l,
+    )
+
+pub complete : Complete
+complete row value near =
+    let near-read = found-near (looked row) value (mod-lt (upright row) (pow-pos 22)) (near .0) (near .1) in
+    rw (near-read .1) (refl, refl)
+
+pub eightExactly : EightExactly
+eightExactly row = (
+  λ eight value near. omega (arith, eight, complete row value near .0),
+  λ none. go none (zeroOrEight row),
+)
+  where
+    go : ((value : ℕ) → Near row value → ⊥) → (readRow row .number ≡ 0) ⊎ (readRow row .number ≡ 8) → readRow row .number ≡ 8
+    go none (inl done) = absurd (none (readRow row .value) (sound row done))
+    go none (inr eight) = eight
+
+pub corrected : Corrected
+corrected value place h l =
+    let small : flippedAt place (code value) < 2 ^ 22 = xor-lt 22 (code value) (2 ^ place) (code-lt value h) (pow-lt l) in (
+      ap decoded (looked-plain (flippedAt place (code value)) small) ∙ decoded-flipped value place h l,
+      ap decoded (ap looked (xor-right-comm (code value) 0xffffff (2 ^ place)) ∙ looked-inverted (flippedAt place (code value)) small)
+          ∙ decoded-flipped value place h l,
+    )
+
+pub plainFlag : PlainFlag
+plainFlag value place h low high =
+    let small = code-lt value h in
+    subst (λ (k : ℕ). readRow (flippedAt k (plain value)) ≡ found value Clean) (omega arith)
+    (ap decoded (looked-flag (plain value) 0 (place - 22) (omega arith) (omega arith) (div-eq-of-lt small) ∙ mod-eq-of-lt small)
+    ∙ decoded-code value h)
+
+pub invertedFlag : InvertedFlag
+invertedFlag value place h low high =
+    let small = code-lt value h in
+    subst (λ (k : ℕ). readRow (flippedAt k (inverted value)) ≡ refused 8) (omega arith)
+    (ap decoded
+    (looked-flag (inverted value) 1 (place - 22) (omega arith) (omega arith) (both-set (code value) small)
+    ∙ xor-mod (code value) 0xffffff 22 ∙ ap (λ (bits : ℕ). bitXor bits 0x3fffff) (mod-eq-of-lt small))
+    ∙ decoded-all-flipped value h)
