@@ -14,7 +14,7 @@ use lib.Pow.{split, pow-pos, shr-lt}
 use Rattle.row.specs.Answers.{refused, found}
 use Rattle.row.specs.Choice.{if_then_else_}
 use Rattle.row.specs.Code.{setBits, parity, masks, withCheck, withChecks, code}
-use Rattle.row.specs.Reading.{dataOf, isCode, flippedAt, repairedBelow, decoded}
+use Rattle.row.specs.Reading.{upright, dataOf, isCode, flippedAt, repairedBelow, decoded, readRow}
 use Rattle.row.specs.declared.answer.Answer.{Answer}
 use Rattle.row.specs.declared.answer.Condition.the-variants.{Clean, Repaired}
 use Rattle.row.proofs.Codes.{code-linear, code-data, code-lt}
@@ -174,3 +174,23 @@ module _ (bits coded : ℕ) (right : coded ≡ code (bits % 2 ^ 16)) (small : bi
       → place ≤ 21 → decoded bits ≡ found (bitXor bits (2 ^ place) % 2 ^ 16) (Repaired place)
   read-repaired place some names low =
       read-damaged some ∙ ap (λ (p : ℕ). repairedAt p bits) names ∙ rw (lt-ltb place 22 (suc-le-suc low))
+
+-- ---- a value that is read has 16 bits
+
+repaired-lt : (places bits : ℕ) → repairedBelow places bits .value < 2 ^ 16
+unfolding repairedBelow
+repaired-lt zero bits = pow-pos 16
+repaired-lt (suc place) bits = go (repaired-lt place bits) (isCode (flippedAt place bits))
+  where
+    go : repairedBelow place bits .value < 2 ^ 16 → (t : Bool)
+        → (if t then found (dataOf (flippedAt place bits)) (Repaired place) else repairedBelow place bits) .value < 2 ^ 16
+    go below true = mod-lt (flippedAt place bits) (pow-pos 16)
+    go below false = below
+
+pub read-lt : (row : ℕ) → readRow row .value < 2 ^ 16
+unfolding decoded
+read-lt row = go (isCode (upright row % 2 ^ 22))
+  where
+    go : (t : Bool) → (if t then found (dataOf (upright row % 2 ^ 22)) Clean else repairedBelow 22 (upright row % 2 ^ 22)) .value < 2 ^ 16
+    go true = mod-lt (upright row % 2 ^ 22) (pow-pos 16)
+    go false = repaired-lt 22 (upright row % 2 ^ 22)

@@ -1,0 +1,6 @@
+pub mod Decoding
+pub mod Ladders
+pub mod Lists
+pub mod Majority
+pub mod Orders
+pub mod Ranges

@@ -1,0 +1,50 @@
+-- Lists by their places: what an array that is filled place by place holds, what stands at a place, and when two lists are the same.
+-- Assumes nothing.
+use mathlib.Core.Path.{_≡_, refl, sym, ap, ap₂, _∙_, subst}
+use mathlib.Core.Bool.{Bool, true, false, _&&_}
+use mathlib.Core.List.{List, [], _∷_, _++_}
+use Prim.Native.Nat.{ℕ, zero, suc, _+_, _≤_, _<_}
+use native.Mathlib.Nat.{le-of-suc-le-suc, not-suc-le-zero, le-refl, le-of-eq, le-of-lt, lt-of-lt-of-le, eq-or-lt-of-le}
+use native.Mathlib.Numerals.{add-one}
+use borrow.Author.Tests.{eq-eqb, ne-eqb}
+use lib.Dec.{eqb, leb}
+use lib.ListN.{length, getD, take, drop, set, length-append, List·getD-append}
+use lib.Seq.{take-suc-set, take-all, take-length, drop-cons, drop-length, getD-at}
+use Rattle.chip.specs.Lists.{listed, same}
+
+-- what stands at a place of a list is the same whatever stands past it
+pub getD-in {ℓ} : {A : Type ℓ} (l : List A) (k : ℕ) (d e : A) → k < length l → getD l k d ≡ getD l k e
+getD-in [] k d e h = absurd (not-suc-le-zero h)
+getD-in (x ∷ l) zero d e h = refl
+getD-in (x ∷ l) (suc k) d e h = getD-in l k d e (le-of-suc-le-suc h)
+
+module _ {ℓ} {A : Type ℓ} (rule : ℕ → A) where
+  pub length-listed : (n : ℕ) → length (listed n rule) ≡ n
+  unfolding listed
+  length-listed zero = refl
+  length-listed (suc n) = length-append (listed n rule) (rule n ∷ []) ∙ ap (λ (m : ℕ). m + 1) (length-listed n) ∙ add-one n
+
+  -- one place more is filled
+  pub listed-more : (l : List A) (i : ℕ) → i < length l → take i l ≡ listed i rule → take (i + 1) (set l i (rule i)) ≡ listed (i + 1) rule
+  unfolding listed
+  listed-more l i h e = rw add-one (take-suc-set l i (rule i) h ∙ ap (λ (front : List A). front ++ (rule i ∷ [])) e)
+
+  -- all places are filled
+  pub listed-all : (n : ℕ) (l : List A) → length l ≡ n → take n l ≡ listed n rule → l ≡ listed n rule
+  listed-all n l h e = sym (take-all n l (le-of-eq h)) ∙ e
+
+-- the words compared one after the other
+pub same-next : (a b : List ℕ) (i : ℕ) → i < length a → i < length b → getD a i 0 ≡ getD b i 0
+    → same (drop i a) (drop i b) ≡ same (drop (i + 1) a) (drop (i + 1) b)
+unfolding same
+same-next a b i ha hb e =
+    rw (add-one, drop-cons a i 0 ha, drop-cons b i 0 hb, eq-eqb (getD a i 0) (getD b i 0) e)
+
+pub same-not : (a b : List ℕ) (i : ℕ) → i < length a → i < length b → (getD a i 0 ≡ getD b i 0 → ⊥)
+    → same (drop i a) (drop i b) ≡ false
+unfolding same
+same-not a b i ha hb e = rw (drop-cons a i 0 ha, drop-cons b i 0 hb, ne-eqb (getD a i 0) (getD b i 0) e)
+
+pub same-end : (a b : List ℕ) → same (drop (length a) a) (drop (length b) b) ≡ true
+unfolding same
+same-end a b = rw (drop-length a, drop-length b)

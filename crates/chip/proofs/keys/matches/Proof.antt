@@ -1,0 +1,86 @@
+-- `chip::keys::matches` meets its contract: each answer by the tests that led to it.
+-- Assumes nothing.
+use borrow.Author.Needs.{needs}
+use mathlib.Core.Path.{_≡_, sym, ap, _∙_}
+use mathlib.Core.Bool.{true, false, not}
+use borrow.Author.Tests.{lt-leb, le-leb}
+use borrow.Author.Tests.{not-true, not-false}
+use Rattle.chip.specs.Keys.{keyAt, noKey}
+use Rattle.chip.specs.Lists.{same}
+use Rattle.chip.specs.Keys.{matches}
+use Rattle.chip.proofs.keys.matches.Statement.{statement}
+use Rattle.chip.proofs.keys.matches.Tie as tie
+
+returns : tie.Need-returns
+unfolding matches
+returns c = simp (lt-leb _ _ (c .if1 .taken))
+
+returns-2 : tie.Need-returns-2
+unfolding matches
+returns-2 c = simp (le-leb _ _ (c .before .if1 .left), lt-leb _ _ (c .if2 .taken))
+
+cast-at : tie.Need-cast-at
+cast-at c = search needs
+
+mul-key : tie.Need-mul-key
+mul-key c = search needs
+
+element-copy-out-key : tie.Need-element-copy-out-key
+element-copy-out-key c = search needs
+
+returns-3 : tie.Need-returns-3
+unfolding matches
+returns-3 c =
+    let s = c .before .before .before .before .before .args in
+    let valid : keyAt (s .t1) (s .index) .valid ≡ false = not-true _ (c .if3 .taken) in
+    simp (le-leb _ _ (c .before .before .before .before .if1 .left), le-leb _ _ (c .before .before .before .if2 .left), valid)
+
+returns-4 : tie.Need-returns-4
+unfolding matches
+returns-4 c =
+    let s = c .before .before .before .before .before .before .before .args in
+    let valid : keyAt (s .t1) (s .index) .valid ≡ true = not-false _ (c .before .before .if3 .left) in
+    let whole : keyAt (s .t1) (s .index) .whole ≡ false = not-true _ (c .if4 .taken) in
+    simp (le-leb _ _ (c .before .before .before .before .before .before .if1 .left), le-leb _ _ (c .before .before .before .before .before .if2 .left), valid, whole)
+
+same-requires : tie.Need-same-requires
+same-requires c κs = search needs
+
+returns-5 : tie.Need-returns-5
+unfolding matches
+returns-5 c =
+    let s = c .before .before .before .before .before .before .before .before .before .before .before .args in
+    let valid : keyAt (s .t1) (s .index) .valid ≡ true = not-false _ (c .before .before .before .before .before .before .if3 .left) in
+    let whole : keyAt (s .t1) (s .index) .whole ≡ true = not-false _ (c .before .before .before .before .if4 .left) in
+    let other : same (keyAt (s .t1) (s .index) .words) (s .t1 .entered) ≡ false =
+    sym (c .before .same .ensures) ∙ not-true _ (c .if5 .taken) in
+    simp (le-leb _ _ (c .before .before .before .before .before .before .before .before .before .before .if1 .left), le-leb _ _ (c .before .before .before .before .before .before .before .before .before .if2 .left), valid, whole, other)
+
+same-requires-2 : tie.Need-same-requires-2
+same-requires-2 c κs = search needs
+
+returns-6 : tie.Need-returns-6
+unfolding matches
+returns-6 c =
+    let s = c .before .before .before .before .before .before .before .before .before .before .before .before .args in
+    let valid : keyAt (s .t1) (s .index) .valid ≡ true = not-false _ (c .before .before .before .before .before .before .before .if3 .left) in
+    let whole : keyAt (s .t1) (s .index) .whole ≡ true = not-false _ (c .before .before .before .before .before .if4 .left) in
+    let equal : same (keyAt (s .t1) (s .index) .words) (s .t1 .entered) ≡ true =
+    sym (c .before .before .same .ensures) ∙ not-false _ (c .before .if5 .left) in
+    simp (le-leb _ _ (c .before .before .before .before .before .before .before .before .before .before .before .if1 .left), le-leb _ _ (c .before .before .before .before .before .before .before .before .before .before .if2 .left), valid, whole, equal) (ap not (c .same2 .ensures))
+
+pub matches-spec : {M : Type 1} → statement M
+matches-spec =
+    tie.close
+    (tie.spec
+    returns
+    returns-2
+    cast-at
+    mul-key
+    element-copy-out-key
+    returns-3
+    returns-4
+    same-requires
+    returns-5
+    same-requires-2
+    returns-6)

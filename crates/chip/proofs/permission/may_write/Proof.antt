@@ -1,0 +1,44 @@
+-- `chip::permission::may_write` meets its contract: each answer by the tests that led to it.
+-- Assumes nothing.
+use borrow.Author.Needs.{needs}
+use mathlib.Core.Path.{_≡_, sym, ap, _∙_}
+use mathlib.Core.Bool.{true, false}
+use borrow.Author.Tests.{lt-ltb, le-ltb, le-leb, lt-leb, eq-eqb, ne-eqb}
+use lib.Dec.{eqb}
+use Rattle.chip.specs.Pages.{owner}
+use Rattle.chip.specs.Permission.{mayWrite, callerLevel}
+use Rattle.chip.specs.States.{countedLevel}
+use Rattle.chip.proofs.permission.may_write.Statement.{statement}
+use Rattle.chip.proofs.permission.may_write.Tie as tie
+
+caller-level-requires : tie.Need-caller-level-requires
+caller-level-requires c κs = search needs
+
+returns : tie.Need-returns
+unfolding mayWrite
+returns c = rw (← c .before .caller-level .ensures, ne-eqb _ _ (c .if1 .taken))
+
+caller-level-requires-2 : tie.Need-caller-level-requires-2
+caller-level-requires-2 c κs = search needs
+
+returns-2 : tie.Need-returns-2
+unfolding mayWrite
+returns-2 c = rw (← c .before .before .before .caller-level .ensures, eq-eqb _ _ (c .before .before .if1 .left), ← c .before .caller-level2 .ensures, ne-eqb _ _ (c .if2 .taken))
+
+row-key-level-requires : tie.Need-row-key-level-requires
+row-key-level-requires c κs = search needs
+
+returns-3 : tie.Need-returns-3
+unfolding mayWrite
+returns-3 c = rw (← c .before .before .before .before .caller-level .ensures, eq-eqb _ _ (c .before .before .before .if1 .left), ← c .before .before .caller-level2 .ensures, eq-eqb _ _ (c .before .if2 .left), ← c .row-key-level .ensures)
+
+pub may-write-spec : {M : Type 1} → statement M
+may-write-spec =
+    tie.close
+    (tie.spec
+    caller-level-requires
+    returns
+    caller-level-requires-2
+    returns-2
+    row-key-level-requires
+    returns-3)

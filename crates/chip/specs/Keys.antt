@@ -1,0 +1,67 @@
+-- Keys: where they stand, when one matches, and the key level of a page (document 01, "Keys").
+use Prim.Native.Nat.{ℕ, zero, suc, _+_, _-_, _*_, _/_, _%_}
+use mathlib.Core.Bool.{Bool, true, false, not, _&&_, _||_}
+use mathlib.Core.List.{List, []}
+use lib.Dec.{eqb, ltb, leb}
+use lib.ListN.{getD, replicate}
+use Rattle.row.specs.Choice.{if_then_else_}
+use Rattle.row.specs.Reading.{readRow}
+use Rattle.chip.specs.Lists.{entry, listed, same}
+use Rattle.chip.specs.Locks.{votedByte}
+use Rattle.chip.specs.States.{countedIndex, countedNoKey}
+use Rattle.chip.specs.declared.state.Key.{Key}
+use Rattle.chip.specs.declared.state.State.{State}
+
+-- key k, 1 to 6, has eight ECC rows, from here on
+abbrev pub keyRow : ℕ → ℕ
+keyRow k = 0xf48 + 8 * (k - 1)
+
+-- its valid flag is this row
+abbrev pub validRow : ℕ → ℕ
+validRow k = 0xf78 + k
+
+-- the word that is latched of a key row: its value, or 0 where it does not decode, which is the value of a refusal
+abbrev pub wordOf : ℕ → ℕ
+wordOf row = readRow row .value
+
+-- whether all rows from one on decode
+unfoldable pub allDecode : List ℕ → ℕ → ℕ → Bool
+allDecode rows first zero = true
+allDecode rows first (suc n) = allDecode rows first n && eqb (readRow (entry rows (first + n)) .number) 0
+
+-- what reset latches of key k: its words, low 16 bits first; its flag, set if at least two of bits 0, 8 and 16 are; whether all rows decoded
+abbrev pub latchedKey : List ℕ → ℕ → Key
+latchedKey rows k = record {
+  words = listed 8 (λ i. wordOf (entry rows (keyRow k + i)));
+  valid = eqb (votedByte (entry rows (validRow k)) % 2) 1;
+  whole = allDecode rows (keyRow k) 8;
+}
+
+-- an entered key of all zeros is none
+abbrev pub noKey : List ℕ
+noKey = replicate 8 0
+
+-- the latched key of an index from 1 to 6; at any other there is none
+abbrev pub keyAt : State → ℕ → Key
+keyAt state index = getD (state .keys) (index - 1) (record { words = []; valid = false; whole = false })
+
+-- a key matches if it is latched valid, all its rows decoded, and it equals the entered one, which is not all zeros; index 0 and 7 never match
+unfoldable pub matches : State → ℕ → Bool
+matches state index =
+    leb 1 index && leb index 6
+    && keyAt state index .valid && keyAt state index .whole
+    && same (keyAt state index .words) (state .entered)
+    && not (same (state .entered) noKey)
+
+-- the key level of a page: no index registered, 0; else the write key matches, 0; else the read key matches, 1; else the no-key state plus 1
+unfoldable pub keyLevel : State → ℕ → ℕ
+keyLevel state page =
+    if eqb (countedIndex (state .writekey) page) 0 && eqb (countedIndex (state .readkey) page) 0 then 0
+    else if matches state (countedIndex (state .writekey) page) then 0
+    else if matches state (countedIndex (state .readkey) page) then 1
+    else if countedNoKey (state .nokey) page then 2
+    else 1
+
+-- a row of a latched valid key
+unfoldable pub hidden : State → ℕ → Bool
+hidden state row = leb 0xf48 row && ltb row 0xf78 && keyAt state (1 + (row - 0xf48) / 8) .valid

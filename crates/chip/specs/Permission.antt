@@ -1,0 +1,27 @@
+-- Who may read and write a row (document 01, "Permission").
+use Prim.Native.Nat.{ℕ, max}
+use mathlib.Core.Bool.{Bool, _&&_, _||_}
+use lib.Dec.{eqb, leb}
+use Rattle.row.specs.Choice.{if_then_else_}
+use Rattle.chip.specs.Keys.{keyLevel}
+use Rattle.chip.specs.Pages.{isLockRow, owner}
+use Rattle.chip.specs.States.{countedLevel}
+use Rattle.chip.specs.declared.state.State.{State}
+
+-- the key level of a row: that of the page that it goes by, so that of a lock row is worked out from its own lock word
+abbrev pub rowKeyLevel : State → ℕ → ℕ
+rowKeyLevel state row = keyLevel state (owner row)
+
+-- the caller's level at a row: Secure is caller 0, Non-secure caller 1
+abbrev pub callerLevel : State → ℕ → ℕ → ℕ
+callerLevel state caller row =
+    if eqb caller 0 then countedLevel (state .secure) (owner row) else countedLevel (state .nonsecure) (owner row)
+
+-- read: the higher of the caller's level and the key level is at most 1; lock rows are always readable
+unfoldable pub mayRead : State → ℕ → ℕ → Bool
+mayRead state caller row = isLockRow row || leb (max (callerLevel state caller row) (rowKeyLevel state row)) 1
+
+-- write: Secure needs Secure and key level 0; Non-secure, for which Secure makes it, Non-secure, Secure and key level 0
+unfoldable pub mayWrite : State → ℕ → ℕ → Bool
+mayWrite state caller row =
+    eqb (callerLevel state caller row) 0 && eqb (countedLevel (state .secure) (owner row)) 0 && eqb (rowKeyLevel state row) 0

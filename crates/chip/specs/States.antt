@@ -1,0 +1,66 @@
+-- The latched state: what is counted of it, and how one part of it is changed (document 01, "The numbers we answer with").
+use Prim.Native.Nat.{ℕ, min}
+use mathlib.Core.Bool.{Bool, false}
+use mathlib.Core.List.{List}
+use lib.ListN.{getD}
+use lib.Dec.{eqb}
+use Rattle.row.specs.Choice.{if_then_else_}
+use Rattle.row.specs.Answers.{refused}
+use Rattle.chip.specs.declared.state.State.{State}
+use Rattle.chip.specs.declared.state.Outcome.{Outcome}
+
+-- a latched level above 2 counts as 2; where there is no page, nothing is allowed
+abbrev pub countedLevel : List ℕ → ℕ → ℕ
+countedLevel levels page = min (getD levels page 2) 2
+
+-- a latched key index above 7 counts as 7
+abbrev pub countedIndex : List ℕ → ℕ → ℕ
+countedIndex indexes page = min (getD indexes page 0) 7
+
+-- the no-key state of a page
+abbrev pub countedNoKey : List Bool → ℕ → Bool
+countedNoKey nokeys page = getD nokeys page false
+
+-- the state with other Secure levels
+abbrev pub withSecure : State → List ℕ → State
+withSecure s levels = record {
+  secure = levels;
+  nonsecure = s .nonsecure;
+  writekey = s .writekey;
+  readkey = s .readkey;
+  nokey = s .nokey;
+  keys = s .keys;
+  entered = s .entered;
+}
+
+-- the state with other Non-secure levels
+abbrev pub withNonsecure : State → List ℕ → State
+withNonsecure s levels = record {
+  secure = s .secure;
+  nonsecure = levels;
+  writekey = s .writekey;
+  readkey = s .readkey;
+  nokey = s .nokey;
+  keys = s .keys;
+  entered = s .entered;
+}
+
+-- the state with another key entered
+abbrev pub withEntered : State → List ℕ → State
+withEntered s words = record {
+  secure = s .secure;
+  nonsecure = s .nonsecure;
+  writekey = s .writekey;
+  readkey = s .readkey;
+  nokey = s .nokey;
+  keys = s .keys;
+  entered = words;
+}
+
+-- a refusal leaves the state as it was
+abbrev pub refusal : ℕ → State → Outcome
+refusal number state = record { answer = refused number; state = state }
+
+-- number 0 is done; any other is a refusal
+abbrev pub outcome : ℕ → State → Outcome → Outcome
+outcome number state done = if eqb number 0 then done else refusal number state

@@ -1,0 +1,89 @@
+// Keys: matching the entered one, the key level of a page, and the rows that are hidden (document 01, "Keys").
+ghost use mathlib.Core.Path.{_≡_};
+ghost use Rattle.chip.specs.Keys as spec;
+ghost use Rattle.chip.specs.Lists.{same as sameLists};
+use crate::pages::Page;
+use crate::state::State;
+use crate::state::counted_index;
+use crate::state::counted_no_key;
+
+// Whether two keys have the same words.
+pub fn same(a: [u16; 8], b: [u16; 8]) -> bool
+    ensures { λ r. ⌜ r ≡ sameLists a b ⌝ }
+{
+    let mut i = 0;
+    while i < 8 {
+        if a[i] != b[i] {
+            return false;
+        }
+        i += 1;
+    }
+    true
+}
+
+// Whether the key of an index matches the entered one.
+pub fn matches(state: State, index: u32) -> bool
+    ensures { λ r. ⌜ r ≡ spec.matches state index ⌝ }
+{
+    if index < 1 {
+        return false;
+    }
+    if 6 < index {
+        return false;
+    }
+    let at = (index - 1) as usize;
+    let key = state.keys[at];
+    if !key.valid {
+        return false;
+    }
+    if !key.whole {
+        return false;
+    }
+    let words = key.words;
+    let entered = state.entered;
+    if !same(words, entered) {
+        return false;
+    }
+    !same(entered, [0; 8])
+}
+
+// The key level of a page.
+pub fn key_level(state: State, page: Page) -> u32
+    ensures { λ r. ⌜ r ≡ spec.keyLevel state (page .number) ⌝ }
+{
+    let writekeys = state.writekey;
+    let readkeys = state.readkey;
+    let nokeys = state.nokey;
+    let writekey = counted_index(writekeys, page);
+    let readkey = counted_index(readkeys, page);
+    if writekey == 0 {
+        if readkey == 0 {
+            return 0;
+        }
+    }
+    if matches(state, writekey) {
+        return 0;
+    }
+    if matches(state, readkey) {
+        return 1;
+    }
+    if counted_no_key(nokeys, page) {
+        return 2;
+    }
+    1
+}
+
+// Whether a row is one of a latched valid key.
+pub fn hidden(state: State, row: u32) -> bool
+    ensures { λ r. ⌜ r ≡ spec.hidden state row ⌝ }
+{
+    if row < 0xf48 {
+        return false;
+    }
+    if 0xf78 <= row {
+        return false;
+    }
+    let at = ((row - 0xf48) / 8) as usize;
+    let key = state.keys[at];
+    key.valid
+}

@@ -1,0 +1,52 @@
+// Who may read and write a row (document 01, "Permission").
+ghost use mathlib.Core.Path.{_≡_};
+ghost use Rattle.chip.specs.Permission as spec;
+use crate::keys::key_level;
+use crate::pages::Page;
+use crate::state::State;
+use crate::state::counted_level;
+
+// The key level of a row: that of the page that it goes by.
+pub fn row_key_level(state: State, row: u32) -> u32
+    ensures { λ r. ⌜ r ≡ spec.rowKeyLevel state row ⌝ }
+{
+    key_level(state, Page::owner(row))
+}
+
+// The caller's level at a row.
+pub fn caller_level(state: State, caller: u32, row: u32) -> u32
+    ensures { λ r. ⌜ r ≡ spec.callerLevel state caller row ⌝ }
+{
+    if caller == 0 {
+        let secure = state.secure;
+        return counted_level(secure, Page::owner(row));
+    }
+    let nonsecure = state.nonsecure;
+    counted_level(nonsecure, Page::owner(row))
+}
+
+// Whether a caller may read a row.
+pub fn may_read(state: State, caller: u32, row: u32) -> bool
+    ensures { λ r. ⌜ r ≡ spec.mayRead state caller row ⌝ }
+{
+    if 0xf80 <= row {
+        return true;
+    }
+    if 1 < caller_level(state, caller, row) {
+        return false;
+    }
+    row_key_level(state, row) <= 1
+}
+
+// Whether a row may be written by Secure, or by Secure for Non-secure.
+pub fn may_write(state: State, caller: u32, row: u32) -> bool
+    ensures { λ r. ⌜ r ≡ spec.mayWrite state caller row ⌝ }
+{
+    if caller_level(state, caller, row) != 0 {
+        return false;
+    }
+    if caller_level(state, 0, row) != 0 {
+        return false;
+    }
+    row_key_level(state, row) == 0
+}

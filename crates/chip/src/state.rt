@@ -1,0 +1,83 @@
+// The latched state, which goes in by value and comes back by value, and what is counted of it (document 01).
+ghost use mathlib.Core.Path.{_≡_};
+ghost use Rattle.chip.specs.States as spec;
+use crate::pages::Page;
+use row::answer::Answer;
+use row::answer::refused;
+
+// A key as reset latched it: its words, its valid flag, and whether all its rows decoded.
+#[repr(C)]
+pub struct Key {
+    pub words: [u16; 8],
+    pub valid: bool,
+    pub whole: bool,
+}
+
+// What the hardware latches at reset, for each page and each key, and the key that was entered since.
+#[repr(C)]
+pub struct State {
+    pub secure: [u8; 64],
+    pub nonsecure: [u8; 64],
+    pub writekey: [u8; 64],
+    pub readkey: [u8; 64],
+    pub nokey: [bool; 64],
+    pub keys: [Key; 6],
+    pub entered: [u16; 8],
+}
+
+// What a call that can change the state answers.
+pub struct Outcome {
+    pub answer: Answer,
+    pub state: State,
+}
+
+// The outcome of a refusal, which leaves the state as it was.
+pub fn refusal(number: u32, state: State) -> Outcome
+    ensures { λ r. ⌜ r ≡ spec.refusal number state ⌝ }
+{
+    Outcome {
+        answer: refused(number),
+        state,
+    }
+}
+
+// The level of a page, counted as 2 where it is above. Where there is no page, nothing is allowed.
+pub fn counted_level(levels: [u8; 64], page: Page) -> u32
+    ensures { λ r. ⌜ r ≡ spec.countedLevel levels (page .number) ⌝ }
+{
+    let at = page.number as usize;
+    if 63 < at {
+        return 2;
+    }
+    let level = levels[at];
+    if 2 < level {
+        return 2;
+    }
+    level as u32
+}
+
+// A key index of a page, counted as 7 where it is above.
+pub fn counted_index(indexes: [u8; 64], page: Page) -> u32
+    ensures { λ r. ⌜ r ≡ spec.countedIndex indexes (page .number) ⌝ }
+{
+    let at = page.number as usize;
+    if 63 < at {
+        return 0;
+    }
+    let index = indexes[at];
+    if 7 < index {
+        return 7;
+    }
+    index as u32
+}
+
+// The no-key state of a page.
+pub fn counted_no_key(nokeys: [bool; 64], page: Page) -> bool
+    ensures { λ r. ⌜ r ≡ spec.countedNoKey nokeys (page .number) ⌝ }
+{
+    let at = page.number as usize;
+    if 63 < at {
+        return false;
+    }
+    nokeys[at]
+}
