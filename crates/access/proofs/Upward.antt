@@ -1,0 +1,59 @@
+-- Rows taken upward: judging them one after the other, and gathering them.
+-- Assumes nothing.
+use mathlib.Core.Path.{_≡_, refl, sym, ap, ap₂, _∙_}
+use mathlib.Core.Bool.{Bool, true, false, _||_}
+use mathlib.Core.List.{List, [], _∷_, _++_}
+use Prim.Native.Nat.{ℕ, zero, suc, _+_, _-_, _≤_, _<_}
+use native.Mathlib.Nat.{add-suc, add-zero}
+use native.Mathlib.Numerals.{add-one}
+use native.Mathlib.Omega.{arith}
+use borrow.Author.Tests.{eq-eqb, ne-eqb, eqb-true}
+use lib.Dec.{eqb}
+use lib.ListN.{length, getD, take, drop, set, length-drop}
+use lib.Seq.{take-suc, take-suc-set, getD-drop}
+use Rattle.chip.specs.Permission.{mayRead}
+use Rattle.chip.specs.declared.state.State.{State}
+use Rattle.access.specs.Judging.{judged, judgedUpward}
+
+module _ (rows : List ℕ) (state : State) (caller row count i : ℕ) (more : i < count) where
+  one-more : count - i ≡ suc (count - (i + 1))
+  one-more = omega arith
+
+  -- a row that answers 0 hands on to those above it
+  pub upward-next : judged rows state (mayRead state caller (row + i)) (row + i) ≡ 0
+      → judgedUpward rows state caller (row + i) (count - i) ≡ judgedUpward rows state caller (row + (i + 1)) (count - (i + 1))
+  unfolding judgedUpward
+  upward-next e =
+      rw (one-more, eq-eqb (judged rows state (mayRead state caller (row + i)) (row + i)) 0 e)
+      (ap (λ (at : ℕ). judgedUpward rows state caller at (count - (i + 1))) (omega arith))
+
+  -- any other answers for all
+  pub upward-stops : (judged rows state (mayRead state caller (row + i)) (row + i) ≡ 0 → ⊥)
+      → judgedUpward rows state caller (row + i) (count - i) ≡ judged rows state (mayRead state caller (row + i)) (row + i)
+  unfolding judgedUpward
+  upward-stops e = rw (one-more, ne-eqb (judged rows state (mayRead state caller (row + i)) (row + i)) 0 e)
+
+-- where no row is left, none was refused
+pub upward-end : (rows : List ℕ) (state : State) (caller row count i : ℕ) → i ≡ count → judgedUpward rows state caller (row + i) (count - i) ≡ 0
+unfolding judgedUpward
+upward-end rows state caller row count i e =
+    let none : count - i ≡ 0 = omega arith in
+    rw none
+
+-- one row more is gathered
+pub gather-next : (rows held : List ℕ) (row i : ℕ) → row + i < length rows → i < length held → take i held ≡ take i (drop row rows)
+    → take (i + 1) (set held i (getD rows (row + i) 0)) ≡ take (i + 1) (drop row rows)
+gather-next rows held row i h l e =
+    let there : i < length (drop row rows) = rw (length-drop row rows) (omega arith) in
+    rw add-one
+    (take-suc-set held i (getD rows (row + i) 0) l
+    ∙ ap₂ (λ (front : List ℕ) (last : ℕ). front ++ (last ∷ [])) e (sym (getD-drop row rows i 0))
+    ∙ sym (take-suc (drop row rows) i 0 there))
+
+-- three or eight rows are at most eight
+pub count-low : (count : ℕ) → (eqb count 3 || eqb count 8) ≡ true → count ≤ 8
+count-low count e = go (eqb count 3) refl
+  where
+    go : (t : Bool) → eqb count 3 ≡ t → count ≤ 8
+    go true three = let c : count ≡ 3 = eqb-true count 3 three in omega arith
+    go false other = let c : count ≡ 8 = eqb-true count 8 (sym (ap (λ (t : Bool). t || eqb count 8) other) ∙ e) in omega arith

@@ -1,0 +1,73 @@
+-- `access::votes::gathered` meets its contract. The invariant: the rows so far are those of the group.
+-- Assumes nothing.
+use borrow.Author.Needs.{needs}
+use denote.Ref.{now}
+use mathlib.Core.Path.{_≡_, refl, sym, ap, ap₂, _∙_}
+use Prim.Native.Nat.{ℕ, suc, _+_, _-_, _≤_, _<_}
+use native.Mathlib.Nat.{add-zero, sub-zero}
+use native.Mathlib.Omega.{arith}
+use lib.ListN.{length, take, drop, length-set}
+use Rattle.access.proofs.Upward.{gather-next}
+use Rattle.access.proofs.votes.gathered.Statement.{statement}
+use Rattle.access.proofs.votes.gathered.Tie as tie
+
+abbrev Inv-loop : tie.InvT-loop
+Inv-loop rows row count first n group₀ i₀ group i =
+    (i ≤ n) × (length group ≡ 8) × (take i group ≡ take i (drop row rows))
+
+abbrev μ-loop : tie.MeasureT-loop
+μ-loop rows row count first n group₀ i₀ group i = n - i
+
+loop-holds : tie.Need-loop-holds Inv-loop μ-loop
+loop-holds c = (search needs, search needs, refl)
+
+add-group : tie.Need-add-group Inv-loop μ-loop
+add-group c = omega arith
+
+mul-group : tie.Need-mul-group Inv-loop μ-loop
+mul-group c = omega arith
+
+shared-slice-read-group : tie.Need-shared-slice-read-group Inv-loop μ-loop
+shared-slice-read-group c = omega arith
+
+mul-group-2 : tie.Need-mul-group-2 Inv-loop μ-loop
+mul-group-2 c = omega arith
+
+array-write-group : tie.Need-array-write-group Inv-loop μ-loop
+array-write-group c = omega arith
+
+add-i : tie.Need-add-i Inv-loop μ-loop
+add-i c = omega arith
+
+loop-less : tie.Need-loop-less Inv-loop μ-loop
+loop-less c = omega arith
+
+loop-again : tie.Need-loop-again Inv-loop μ-loop
+loop-again c =
+    let s = c .before .before .before .args in
+    let l = c .before .before .loop in
+    (omega arith, simp length-set (l .inv .1), gather-next (now (s .rows)) (l .group) (s .row) (l .i) (omega arith) (omega arith) (l .inv .2))
+
+returns : tie.Need-returns Inv-loop μ-loop
+returns c =
+    let s = c .before .before .args in
+    let l = c .before .loop in
+    let all : l .i ≡ s .count = omega arith in
+    rw (← all) (l .inv .2)
+
+pub gathered-spec : {M : Type 1} → statement M
+gathered-spec =
+    tie.close
+    (tie.spec
+    Inv-loop
+    μ-loop
+    loop-holds
+    add-group
+    mul-group
+    shared-slice-read-group
+    mul-group-2
+    array-write-group
+    add-i
+    loop-less
+    loop-again
+    returns)

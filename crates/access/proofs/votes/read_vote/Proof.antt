@@ -1,0 +1,64 @@
+-- `access::votes::read_vote` meets its contract: a number that is not 0 is a refusal, and 0 votes on the gathered rows.
+-- Assumes nothing.
+use borrow.Author.Needs.{needs}
+use mathlib.Core.Path.{sym, ap, ap₂, _∙_}
+use denote.Ref.{now}
+use borrow.Author.Tests.{lt-ltb, le-ltb, eq-eqb, ne-eqb, not-true, not-false}
+use Prim.Native.Nat.{ℕ}
+use mathlib.Core.List.{List}
+use Rattle.row.specs.Answers.{found}
+use Rattle.row.specs.Voting.{vote, threshold}
+use Rattle.row.specs.declared.answer.Condition.the-variants.{Clean}
+use Rattle.access.specs.Reads.{readVote, group}
+use Rattle.access.proofs.Passing.{vote-in}
+use Rattle.access.proofs.Upward.{count-low}
+use Rattle.access.proofs.votes.read_vote.Statement.{statement}
+use Rattle.access.proofs.votes.read_vote.Tie as tie
+
+read-vote-number-requires : tie.Need-read-vote-number-requires
+read-vote-number-requires c κs = search needs
+
+refused-requires : tie.Need-refused-requires
+refused-requires c κs = search needs
+
+returns : tie.Need-returns
+unfolding readVote
+returns c = rw (← c .before .before .read-vote-number .ensures, ne-eqb _ _ (c .before .if1 .taken)) (c .refused .ensures)
+
+gathered-requires : tie.Need-gathered-requires
+gathered-requires c κs =
+    let s = c .before .before .before .args in
+    let in-range = vote-in (now (s .rows)) (s .state) (s .caller) (s .row) (s .count) (sym (c .before .read-vote-number .ensures) ∙ c .if1 .left) in
+    (in-range .0, count-low (s .count) (in-range .1))
+
+threshold-requires : tie.Need-threshold-requires
+threshold-requires c κs = search needs
+
+vote-requires : tie.Need-vote-requires
+vote-requires c κs = search needs
+
+found-requires : tie.Need-found-requires
+found-requires c κs = search needs
+
+returns-2 : tie.Need-returns-2
+unfolding readVote
+returns-2 c =
+    let s = c .before .before .before .before .before .before .before .args in
+    rw (← c .before .before .before .before .before .read-vote-number .ensures, eq-eqb _ _ (c .before .before .before .before .if1 .left))
+    (c .found .ensures
+    ∙ ap (λ (voted : ℕ). found voted Clean)
+    (c .before .vote .ensures
+    ∙ ap₂ (λ (t : ℕ) (rows : List ℕ). vote t rows) (c .before .before .threshold .ensures) (c .before .before .before .gathered .ensures)))
+
+pub read-vote-spec : {M : Type 1} → statement M
+read-vote-spec =
+    tie.close
+    (tie.spec
+    read-vote-number-requires
+    refused-requires
+    returns
+    gathered-requires
+    threshold-requires
+    vote-requires
+    found-requires
+    returns-2)

@@ -1,0 +1,78 @@
+-- `access::writes::write_raw` meets its contract: a number that is not 0 is a refusal, and 0 burns the row.
+-- Assumes nothing.
+use borrow.Author.Needs.{needs}
+use mathlib.Core.Path.{_≡_, refl, sym, ap, _∙_}
+use denote.Ref.{now}
+use borrow.Author.Tests.{lt-ltb, le-ltb, eq-eqb, ne-eqb, not-true, not-false}
+use Rattle.row.specs.Writing.{rawWritten}
+use Rattle.row.specs.declared.writing.Written.{Written}
+use lib.ListN.{set}
+use Rattle.access.specs.Writes.{writeRaw, spent}
+use Rattle.access.proofs.Passing.{raw-write-in}
+use Rattle.access.proofs.writes.write_raw.Statement.{statement}
+use Rattle.access.proofs.writes.write_raw.Tie as tie
+
+write-raw-number-requires : tie.Need-write-raw-number-requires
+write-raw-number-requires c κs = search needs
+
+refusal-requires : tie.Need-refusal-requires
+refusal-requires c κs = search needs
+
+same-length : tie.Need-same-length
+same-length c = search needs
+
+returns : tie.Need-returns
+unfolding writeRaw
+returns c = (
+  rw (← c .before .before .write-raw-number .ensures, ne-eqb _ _ (c .before .if1 .taken)) (c .refusal .ensures),
+  rw (← c .before .before .write-raw-number .ensures, ne-eqb _ _ (c .before .if1 .taken)),
+)
+
+mul-write-raw : tie.Need-mul-write-raw
+mul-write-raw c = search needs
+
+slice-read-write-raw : tie.Need-slice-read-write-raw
+slice-read-write-raw c =
+    let s = c .before .before .before .before .before .args in
+    raw-write-in (now (s .rows)) (s .state) (s .caller) (s .row) (s .value) (sym (c .before .before .write-raw-number .ensures) ∙ c .before .if1 .left)
+
+write-raw-requires : tie.Need-write-raw-requires
+write-raw-requires c κs = search needs
+
+mul-rows : tie.Need-mul-rows
+mul-rows c = search needs
+
+slice-write-rows : tie.Need-slice-write-rows
+slice-write-rows c =
+    let s = c .before .before .before .before .before .before .args in
+    raw-write-in (now (s .rows)) (s .state) (s .caller) (s .row) (s .value) (sym (c .before .before .before .write-raw-number .ensures) ∙ c .before .before .if1 .left)
+
+spent-requires : tie.Need-spent-requires
+spent-requires c κs = search needs
+
+same-length-2 : tie.Need-same-length-2
+same-length-2 c = search needs
+
+returns-2 : tie.Need-returns-2
+unfolding writeRaw
+returns-2 c = (
+  rw (← c .before .before .before .before .write-raw-number .ensures, eq-eqb _ _ (c .before .before .before .if1 .left)) (simp (c .spent .ensures, c .before .write-raw .ensures)),
+  rw (← c .before .before .before .before .write-raw-number .ensures, eq-eqb _ _ (c .before .before .before .if1 .left)) (simp (c .before .write-raw .ensures)),
+)
+
+pub write-raw-spec : {M : Type 1} → statement M
+write-raw-spec =
+    tie.close
+    (tie.spec
+    write-raw-number-requires
+    refusal-requires
+    same-length
+    returns
+    mul-write-raw
+    slice-read-write-raw
+    write-raw-requires
+    mul-rows
+    slice-write-rows
+    spent-requires
+    same-length-2
+    returns-2)

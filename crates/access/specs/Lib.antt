@@ -1,0 +1,3 @@
+pub mod Judging
+pub mod Reads
+pub mod Writes

@@ -1,0 +1,84 @@
+// Reading a vote (document 01, "Votes").
+ghost use mathlib.Core.Path.{_≡_};
+ghost use Prim.Native.Nat.{_+_, _≤_};
+ghost use lib.ListN.{length, take};
+ghost use Rattle.access.specs.Judging.{judgedUpward};
+ghost use Rattle.access.specs.Reads as spec;
+use crate::judging::judged;
+use chip::permission::may_read;
+use chip::state::State;
+use row::answer::Answer;
+use row::answer::Condition;
+use row::answer::found;
+use row::answer::refused;
+use row::voting::threshold;
+use row::voting::vote;
+
+// The number of the first of `count` rows, taken upward, that is not 0.
+fn judged_upward(rows: &[u32], state: State, caller: u32, row: u32, count: u32) -> u32
+    requires { ⌜ row + count ≤ 4096 ⌝ }
+    ensures { λ r. ⌜ r ≡ judgedUpward (now (rows .entry)) state caller row count ⌝ }
+{
+    let mut i = 0;
+    while i < count {
+        let at = row + i;
+        let number = judged(rows, state, may_read(state, caller, at), at);
+        if number != 0 {
+            return number;
+        }
+        i += 1;
+    }
+    0
+}
+
+// The number of a vote.
+fn read_vote_number(rows: &[u32], state: State, caller: u32, row: u32, count: u32) -> u32
+    ensures { λ r. ⌜ r ≡ spec.readVoteNumber (now (rows .entry)) state caller row count ⌝ }
+{
+    if rows.len() != 4096 {
+        return 1;
+    }
+    if 1 < caller {
+        return 4;
+    }
+    if count != 3 {
+        if count != 8 {
+            return 4;
+        }
+    }
+    if 4096 - count < row {
+        return 2;
+    }
+    if 0xf80 - count < row {
+        return 5;
+    }
+    judged_upward(rows, state, caller, row, count)
+}
+
+// The rows of a group, gathered.
+fn gathered(rows: &[u32], row: u32, count: u32) -> [u32; 8]
+    requires { ⌜ (row + count ≤ length (now rows)) × (count ≤ 8) ⌝ }
+    ensures { λ r. ⌜ take count r ≡ spec.group (now (rows .entry)) row count ⌝ }
+{
+    let first = row as usize;
+    let n = count as usize;
+    let mut group = [0u32; 8];
+    let mut i = 0;
+    while i < n {
+        group[i] = rows[first + i];
+        i += 1;
+    }
+    group
+}
+
+// Reads the vote of three or eight rows. All are taken before any bit is judged.
+pub fn read_vote(rows: &[u32], state: State, caller: u32, row: u32, count: u32) -> Answer
+    ensures { λ r. ⌜ r ≡ spec.readVote (now (rows .entry)) state caller row count ⌝ }
+{
+    let number = read_vote_number(rows, state, caller, row, count);
+    if number != 0 {
+        return refused(number);
+    }
+    let group = gathered(rows, row, count);
+    found(vote(group, count, threshold(count)), Condition::Clean)
+}

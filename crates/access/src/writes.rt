@@ -1,0 +1,104 @@
+// The writes: raw and ECC (document 01).
+ghost use mathlib.Core.Path.{_≡_};
+ghost use Rattle.access.specs.Writes as spec;
+use crate::judging::judged;
+use chip::permission::may_write;
+use chip::state::Outcome;
+use chip::state::State;
+use chip::state::refusal;
+use row::answer::Answer;
+use row::answer::Condition;
+
+// A done write returns its pulses.
+pub fn spent(pulses: u32) -> Answer
+    ensures { λ r. ⌜ r ≡ spec.spent pulses ⌝ }
+{
+    Answer {
+        number: 0,
+        value: 0,
+        condition: Condition::Clean,
+        place: 0,
+        pulses,
+    }
+}
+
+// The number of a raw write.
+fn write_raw_number(rows: &[u32], state: State, caller: u32, row: u32, value: u32) -> u32
+    ensures { λ r. ⌜ r ≡ spec.writeRawNumber (now (rows .entry)) state caller row value ⌝ }
+{
+    if rows.len() != 4096 {
+        return 1;
+    }
+    if 1 < caller {
+        return 4;
+    }
+    if 16777215 < value {
+        return 4;
+    }
+    if 4095 < row {
+        return 2;
+    }
+    judged(rows, state, may_write(state, caller, row), row)
+}
+
+// Burns the bits of a value into a row.
+pub fn write_raw(rows: &mut [u32], state: State, caller: u32, row: u32, value: u32) -> Outcome
+    ensures { λ r. ⌜
+        (r ≡ spec.writeRaw (now (rows .entry)) state caller row value .outcome)
+        × (now (rows .exit) ≡ spec.writeRaw (now (rows .entry)) state caller row value .rows)
+        ⌝ }
+{
+    let number = write_raw_number(rows, state, caller, row, value);
+    if number != 0 {
+        return refusal(number, state);
+    }
+    let at = row as usize;
+    let written = row::writing::write_raw(rows[at], value);
+    rows[at] = written.row;
+    let answer = spent(written.pulses);
+    Outcome { answer, state }
+}
+
+// The number of an ECC write, before its row is looked at.
+fn write_ecc_allowed(rows: &[u32], state: State, caller: u32, row: u32, value: u32) -> u32
+    ensures { λ r. ⌜ r ≡ spec.writeEccAllowed (now (rows .entry)) state caller row value ⌝ }
+{
+    if rows.len() != 4096 {
+        return 1;
+    }
+    if 1 < caller {
+        return 4;
+    }
+    if 65535 < value {
+        return 4;
+    }
+    if 4095 < row {
+        return 2;
+    }
+    if 0xf80 <= row {
+        return 5;
+    }
+    judged(rows, state, may_write(state, caller, row), row)
+}
+
+// Burns a value with its code into a row, in the polarity that the bits already set allow.
+pub fn write_ecc(rows: &mut [u32], state: State, caller: u32, row: u32, value: u32) -> Outcome
+    ensures { λ r. ⌜
+        (r ≡ spec.writeEcc (now (rows .entry)) state caller row value .outcome)
+        × (now (rows .exit) ≡ spec.writeEcc (now (rows .entry)) state caller row value .rows)
+        ⌝ }
+{
+    let number = write_ecc_allowed(rows, state, caller, row, value);
+    if number != 0 {
+        return refusal(number, state);
+    }
+    let at = row as usize;
+    let written = row::writing::write_ecc(rows[at], value as u16);
+    let fits = written.number;
+    if fits != 0 {
+        return refusal(fits, state);
+    }
+    rows[at] = written.row;
+    let answer = spent(written.pulses);
+    Outcome { answer, state }
+}
