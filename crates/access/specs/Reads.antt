@@ -1,6 +1,6 @@
 -- The reads: raw, ECC and a vote (document 01). Each has its number, first test first, and what it answers.
 use Prim.Native.Nat.{ℕ, _+_}
-use mathlib.Core.Bool.{Bool, not, _||_}
+use mathlib.Core.Bool.{not, _||_}
 use mathlib.Core.List.{List}
 use lib.Dec.{eqb, ltb}
 use lib.ListN.{length, take, drop}
@@ -11,30 +11,20 @@ use Rattle.row.specs.Voting.{threshold, vote}
 use Rattle.row.specs.declared.answer.Answer.{Answer}
 use Rattle.row.specs.declared.answer.Condition.the-variants.{Clean}
 use Rattle.chip.specs.Lists.{entry}
-use Rattle.chip.specs.Pages.{isLockRow}
 use Rattle.chip.specs.Permission.{mayRead}
 use Rattle.chip.specs.declared.state.State.{State}
-use Rattle.access.specs.Judging.{judged, judgedUpward, answered}
+use Rattle.access.specs.Judging.{raw, ecc, noValue, rowNumber, judgedUpward, answered}
 
 -- read raw
 abbrev pub readRawNumber : List ℕ → State → ℕ → ℕ → ℕ
-readRawNumber rows state caller row =
-    if not (eqb (length rows) 4096) then 1
-    else if ltb 1 caller then 4
-    else if ltb 4095 row then 2
-    else judged rows state (mayRead state caller row) row
+readRawNumber rows state caller row = rowNumber rows state caller row raw noValue (mayRead state caller row)
 
 unfoldable pub readRaw : List ℕ → State → ℕ → ℕ → Answer
 readRaw rows state caller row = answered (readRawNumber rows state caller row) (found (entry rows row) Clean)
 
 -- read ECC
 abbrev pub readEccNumber : List ℕ → State → ℕ → ℕ → ℕ
-readEccNumber rows state caller row =
-    if not (eqb (length rows) 4096) then 1
-    else if ltb 1 caller then 4
-    else if ltb 4095 row then 2
-    else if isLockRow row then 5
-    else judged rows state (mayRead state caller row) row
+readEccNumber rows state caller row = rowNumber rows state caller row ecc noValue (mayRead state caller row)
 
 -- where no value has a code within one bit, the row's own answer is 8
 unfoldable pub readEcc : List ℕ → State → ℕ → ℕ → Answer

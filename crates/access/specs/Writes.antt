@@ -1,21 +1,19 @@
 -- The writes: raw and ECC (document 01). Each has its number, first test first, and what it leaves.
 use Prim.Native.Nat.{ℕ}
-use mathlib.Core.Bool.{Bool, not}
 use mathlib.Core.List.{List}
 use lib.Dec.{eqb, ltb}
-use lib.ListN.{length, set}
+use lib.ListN.{set}
 use Rattle.row.specs.Choice.{if_then_else_}
 use Rattle.row.specs.Writing.{eccWritten, rawWritten}
 use Rattle.row.specs.declared.answer.Answer.{Answer}
 use Rattle.row.specs.declared.answer.Condition.the-variants.{Clean}
 use Rattle.row.specs.declared.writing.Written.{Written}
 use Rattle.chip.specs.Lists.{entry}
-use Rattle.chip.specs.Pages.{isLockRow}
 use Rattle.chip.specs.Permission.{mayWrite}
 use Rattle.chip.specs.States.{refusal}
 use Rattle.chip.specs.declared.state.State.{State}
 use Rattle.chip.specs.declared.state.Outcome.{Outcome}
-use Rattle.access.specs.Judging.{judged}
+use Rattle.access.specs.Judging.{raw, ecc, rowNumber}
 
 -- what a call that burns leaves: its outcome, and all rows
 pub record Left : Type 0 where
@@ -35,30 +33,19 @@ leaves number rows state row written =
     }
     else record { outcome = refusal number state; rows = rows }
 
--- write raw
+-- write raw: a value above 16,777,215 is too large
 abbrev pub writeRawNumber : List ℕ → State → ℕ → ℕ → ℕ → ℕ
-writeRawNumber rows state caller row value =
-    if not (eqb (length rows) 4096) then 1
-    else if ltb 1 caller then 4
-    else if ltb 16777215 value then 4
-    else if ltb 4095 row then 2
-    else judged rows state (mayWrite state caller row) row
+writeRawNumber rows state caller row value = rowNumber rows state caller row raw (ltb 16777215 value) (mayWrite state caller row)
 
 unfoldable pub writeRaw : List ℕ → State → ℕ → ℕ → ℕ → Left
 writeRaw rows state caller row value =
     leaves (writeRawNumber rows state caller row value) rows state row (rawWritten (entry rows row) value)
 
--- write ECC, before its row is looked at
+-- write ECC, before its row is used: a value above 65,535 is too large
 abbrev pub writeEccAllowed : List ℕ → State → ℕ → ℕ → ℕ → ℕ
-writeEccAllowed rows state caller row value =
-    if not (eqb (length rows) 4096) then 1
-    else if ltb 1 caller then 4
-    else if ltb 65535 value then 4
-    else if ltb 4095 row then 2
-    else if isLockRow row then 5
-    else judged rows state (mayWrite state caller row) row
+writeEccAllowed rows state caller row value = rowNumber rows state caller row ecc (ltb 65535 value) (mayWrite state caller row)
 
--- where all that is passed, 9 if neither polarity fits
+-- where that is 0, 9 if neither polarity fits
 abbrev pub writeEccNumber : List ℕ → State → ℕ → ℕ → ℕ → ℕ
 writeEccNumber rows state caller row value =
     if eqb (writeEccAllowed rows state caller row value) 0 then eccWritten (entry rows row) value .number

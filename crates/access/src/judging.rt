@@ -23,3 +23,35 @@ pub fn judged(rows: &[u32], state: State, may: bool, row: u32) -> u32
     }
     0
 }
+
+// The number of a call on one row, before the row is used. `coded` says whether it goes by ECC, `too_large` whether its value is.
+pub fn row_number(
+    rows: &[u32],
+    state: State,
+    caller: u32,
+    row: u32,
+    coded: bool,
+    too_large: bool,
+    may: bool,
+) -> u32
+    ensures { λ r. ⌜ r ≡ spec.rowNumber (now (rows .entry)) state caller row coded «too_large» may ⌝ }
+{
+    if rows.len() != 4096 {
+        return 1;
+    }
+    if 1 < caller {
+        return 4;
+    }
+    if too_large {
+        return 4;
+    }
+    if 4095 < row {
+        return 2;
+    }
+    if coded {
+        if 0xf80 <= row {
+            return 5;
+        }
+    }
+    judged(rows, state, may, row)
+}

@@ -11,6 +11,7 @@ use row::answer::Answer;
 use row::answer::Condition;
 use row::answer::found;
 use row::answer::refused;
+use row::voting::Gathered;
 use row::voting::threshold;
 use row::voting::vote;
 
@@ -56,7 +57,7 @@ fn read_vote_number(rows: &[u32], state: State, caller: u32, row: u32, count: u3
 }
 
 // The rows of a group, gathered.
-fn gathered(rows: &[u32], row: u32, count: u32) -> [u32; 8]
+fn gathered(rows: &[u32], row: u32, count: u32) -> Gathered
     requires { ⌜ (row + count ≤ length (now rows)) × (count ≤ 8) ⌝ }
     ensures { λ r. ⌜ take count r ≡ spec.group (now (rows .entry)) row count ⌝ }
 {

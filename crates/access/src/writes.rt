@@ -1,7 +1,7 @@
 // The writes: raw and ECC (document 01).
 ghost use mathlib.Core.Path.{_≡_};
 ghost use Rattle.access.specs.Writes as spec;
-use crate::judging::judged;
+use crate::judging::row_number;
 use chip::permission::may_write;
 use chip::state::Outcome;
 use chip::state::State;
@@ -22,25 +22,6 @@ pub fn spent(pulses: u32) -> Answer
     }
 }
 
-// The number of a raw write.
-fn write_raw_number(rows: &[u32], state: State, caller: u32, row: u32, value: u32) -> u32
-    ensures { λ r. ⌜ r ≡ spec.writeRawNumber (now (rows .entry)) state caller row value ⌝ }
-{
-    if rows.len() != 4096 {
-        return 1;
-    }
-    if 1 < caller {
-        return 4;
-    }
-    if 16777215 < value {
-        return 4;
-    }
-    if 4095 < row {
-        return 2;
-    }
-    judged(rows, state, may_write(state, caller, row), row)
-}
-
 // Burns the bits of a value into a row.
 pub fn write_raw(rows: &mut [u32], state: State, caller: u32, row: u32, value: u32) -> Outcome
     ensures { λ r. ⌜
@@ -48,7 +29,8 @@ pub fn write_raw(rows: &mut [u32], state: State, caller: u32, row: u32, value: u
         × (now (rows .exit) ≡ spec.writeRaw (now (rows .entry)) state caller row value .rows)
         ⌝ }
 {
-    let number = write_raw_number(rows, state, caller, row, value);
+    let may = may_write(state, caller, row);
+    let number = row_number(rows, state, caller, row, false, 16777215 < value, may);
     if number != 0 {
         return refusal(number, state);
     }
@@ -59,28 +41,6 @@ pub fn write_raw(rows: &mut [u32], state: State, caller: u32, row: u32, value: u
     Outcome { answer, state }
 }
 
-// The number of an ECC write, before its row is looked at.
-fn write_ecc_allowed(rows: &[u32], state: State, caller: u32, row: u32, value: u32) -> u32
-    ensures { λ r. ⌜ r ≡ spec.writeEccAllowed (now (rows .entry)) state caller row value ⌝ }
-{
-    if rows.len() != 4096 {
-        return 1;
-    }
-    if 1 < caller {
-        return 4;
-    }
-    if 65535 < value {
-        return 4;
-    }
-    if 4095 < row {
-        return 2;
-    }
-    if 0xf80 <= row {
-        return 5;
-    }
-    judged(rows, state, may_write(state, caller, row), row)
-}
-
 // Burns a value with its code into a row, in the polarity that the bits already set allow.
 pub fn write_ecc(rows: &mut [u32], state: State, caller: u32, row: u32, value: u32) -> Outcome
     ensures { λ r. ⌜
@@ -88,7 +48,8 @@ pub fn write_ecc(rows: &mut [u32], state: State, caller: u32, row: u32, value: u
         × (now (rows .exit) ≡ spec.writeEcc (now (rows .entry)) state caller row value .rows)
         ⌝ }
 {
-    let number = write_ecc_allowed(rows, state, caller, row, value);
+    let may = may_write(state, caller, row);
+    let number = row_number(rows, state, caller, row, true, 65535 < value, may);
     if number != 0 {
         return refusal(number, state);
     }

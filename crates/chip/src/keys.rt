@@ -4,11 +4,12 @@ ghost use Rattle.chip.specs.Keys as spec;
 ghost use Rattle.chip.specs.Lists.{same as sameLists};
 use crate::pages::Page;
 use crate::state::State;
+use crate::state::Words;
 use crate::state::counted_index;
 use crate::state::counted_no_key;
 
 // Whether two keys have the same words.
-pub fn same(a: [u16; 8], b: [u16; 8]) -> bool
+pub fn same(a: Words, b: Words) -> bool
     ensures { λ r. ⌜ r ≡ sameLists a b ⌝ }
 {
     let mut i = 0;

@@ -5,10 +5,19 @@ use crate::pages::Page;
 use row::answer::Answer;
 use row::answer::refused;
 
+// A level, a key index and a flag of each page; the words of a key.
+pub type Levels = [u8; 64];
+
+pub type Indexes = [u8; 64];
+
+pub type Flags = [bool; 64];
+
+pub type Words = [u16; 8];
+
 // A key as reset latched it: its words, its valid flag, and whether all its rows decoded.
 #[repr(C)]
 pub struct Key {
-    pub words: [u16; 8],
+    pub words: Words,
     pub valid: bool,
     pub whole: bool,
 }
@@ -16,13 +25,13 @@ pub struct Key {
 // What the hardware latches at reset, for each page and each key, and the key that was entered since.
 #[repr(C)]
 pub struct State {
-    pub secure: [u8; 64],
-    pub nonsecure: [u8; 64],
-    pub writekey: [u8; 64],
-    pub readkey: [u8; 64],
-    pub nokey: [bool; 64],
+    pub secure: Levels,
+    pub nonsecure: Levels,
+    pub writekey: Indexes,
+    pub readkey: Indexes,
+    pub nokey: Flags,
     pub keys: [Key; 6],
-    pub entered: [u16; 8],
+    pub entered: Words,
 }
 
 // What a call that can change the state answers.
@@ -42,7 +51,7 @@ pub fn refusal(number: u32, state: State) -> Outcome
 }
 
 // The level of a page, counted as 2 where it is above. Where there is no page, nothing is allowed.
-pub fn counted_level(levels: [u8; 64], page: Page) -> u32
+pub fn counted_level(levels: Levels, page: Page) -> u32
     ensures { λ r. ⌜ r ≡ spec.countedLevel levels (page .number) ⌝ }
 {
     let at = page.number as usize;
@@ -57,7 +66,7 @@ pub fn counted_level(levels: [u8; 64], page: Page) -> u32
 }
 
 // A key index of a page, counted as 7 where it is above.
-pub fn counted_index(indexes: [u8; 64], page: Page) -> u32
+pub fn counted_index(indexes: Indexes, page: Page) -> u32
     ensures { λ r. ⌜ r ≡ spec.countedIndex indexes (page .number) ⌝ }
 {
     let at = page.number as usize;
@@ -72,7 +81,7 @@ pub fn counted_index(indexes: [u8; 64], page: Page) -> u32
 }
 
 // The no-key state of a page.
-pub fn counted_no_key(nokeys: [bool; 64], page: Page) -> bool
+pub fn counted_no_key(nokeys: Flags, page: Page) -> bool
     ensures { λ r. ⌜ r ≡ spec.countedNoKey nokeys (page .number) ⌝ }
 {
     let at = page.number as usize;

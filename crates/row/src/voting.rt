@@ -4,6 +4,9 @@ ghost use Prim.Native.Nat.{_<_, _≤_};
 ghost use lib.ListN.{take};
 ghost use Rattle.row.specs.Voting as spec;
 
+// Eight gathered rows, of which the first few count.
+pub type Gathered = [u32; 8];
+
 // How many of `count` rows must have a bit: two of three, three of eight.
 pub fn threshold(count: u32) -> u32
     ensures { λ r. ⌜ r ≡ spec.threshold count ⌝ }
@@ -12,7 +15,7 @@ pub fn threshold(count: u32) -> u32
 }
 
 // How many of the first `count` rows have the bit at a place.
-fn holders(rows: [u32; 8], count: usize, place: u32) -> u32
+fn holders(rows: Gathered, count: usize, place: u32) -> u32
     requires { ⌜ (count ≤ 8) × (place < 32) ⌝ }
     ensures { λ r. ⌜ r ≡ spec.holders place (take count rows) ⌝ }
 {
@@ -26,7 +29,7 @@ fn holders(rows: [u32; 8], count: usize, place: u32) -> u32
 }
 
 // The vote of the first `count` of eight gathered rows: each of the 24 bits is judged by itself.
-pub fn vote(rows: [u32; 8], count: u32, threshold: u32) -> u32
+pub fn vote(rows: Gathered, count: u32, threshold: u32) -> u32
     ensures { λ r. ⌜ r ≡ spec.vote threshold (take count rows) ⌝ }
 {
     let counted = if count < 8 { count as usize } else { 8 };

@@ -10,7 +10,7 @@ use Rattle.row.specs.Answers.{found}
 use Rattle.row.specs.Voting.{vote, threshold}
 use Rattle.row.specs.declared.answer.Condition.the-variants.{Clean}
 use Rattle.access.specs.Reads.{readVote, group}
-use Rattle.access.proofs.Passing.{vote-in}
+use Rattle.access.proofs.Passing.{vote-passed}
 use Rattle.access.proofs.Upward.{count-low}
 use Rattle.access.proofs.votes.read_vote.Statement.{statement}
 use Rattle.access.proofs.votes.read_vote.Tie as tie
@@ -28,7 +28,7 @@ returns c = rw (← c .before .before .read-vote-number .ensures, ne-eqb _ _ (c 
 gathered-requires : tie.Need-gathered-requires
 gathered-requires c κs =
     let s = c .before .before .before .args in
-    let in-range = vote-in (now (s .rows)) (s .state) (s .caller) (s .row) (s .count) (sym (c .before .read-vote-number .ensures) ∙ c .if1 .left) in
+    let in-range = vote-passed (now (s .rows)) (s .state) (s .caller) (s .row) (s .count) (sym (c .before .read-vote-number .ensures) ∙ c .if1 .left) in
     (in-range .0, count-low (s .count) (in-range .1))
 
 threshold-requires : tie.Need-threshold-requires

@@ -1,19 +1,21 @@
 -- `access::writes::write_raw` meets its contract: a number that is not 0 is a refusal, and 0 burns the row.
 -- Assumes nothing.
 use borrow.Author.Needs.{needs}
-use mathlib.Core.Path.{_≡_, refl, sym, ap, _∙_}
+use mathlib.Core.Path.{_≡_, sym, _∙_}
 use denote.Ref.{now}
-use borrow.Author.Tests.{lt-ltb, le-ltb, eq-eqb, ne-eqb, not-true, not-false}
-use Rattle.row.specs.Writing.{rawWritten}
-use Rattle.row.specs.declared.writing.Written.{Written}
-use lib.ListN.{set}
-use Rattle.access.specs.Writes.{writeRaw, spent}
-use Rattle.access.proofs.Passing.{raw-write-in}
+use mathlib.Core.Bool.{true, false}
+use borrow.Author.Tests.{eq-eqb, ne-eqb}
+use lib.Dec.{ltb}
+use Rattle.access.specs.Writes.{writeRaw}
+use Rattle.access.proofs.Passing.{row-passed}
 use Rattle.access.proofs.writes.write_raw.Statement.{statement}
 use Rattle.access.proofs.writes.write_raw.Tie as tie
 
-write-raw-number-requires : tie.Need-write-raw-number-requires
-write-raw-number-requires c κs = search needs
+may-write-requires : tie.Need-may-write-requires
+may-write-requires c κs = search needs
+
+row-number-requires : tie.Need-row-number-requires
+row-number-requires c κs = search needs
 
 refusal-requires : tie.Need-refusal-requires
 refusal-requires c κs = search needs
@@ -24,8 +26,8 @@ same-length c = search needs
 returns : tie.Need-returns
 unfolding writeRaw
 returns c = (
-  rw (← c .before .before .write-raw-number .ensures, ne-eqb _ _ (c .before .if1 .taken)) (c .refusal .ensures),
-  rw (← c .before .before .write-raw-number .ensures, ne-eqb _ _ (c .before .if1 .taken)),
+  rw (← c .before .before .before .before .may-write .ensures, ← c .before .before .row-number .ensures, ne-eqb _ _ (c .before .if1 .taken)) (c .refusal .ensures),
+  rw (← c .before .before .before .before .may-write .ensures, ← c .before .before .row-number .ensures, ne-eqb _ _ (c .before .if1 .taken)),
 )
 
 mul-write-raw : tie.Need-mul-write-raw
@@ -33,8 +35,9 @@ mul-write-raw c = search needs
 
 slice-read-write-raw : tie.Need-slice-read-write-raw
 slice-read-write-raw c =
-    let s = c .before .before .before .before .before .args in
-    raw-write-in (now (s .rows)) (s .state) (s .caller) (s .row) (s .value) (sym (c .before .before .write-raw-number .ensures) ∙ c .before .if1 .left)
+    let s = c .before .before .before .before .before .before .args in
+    row-passed (now (s .rows)) (s .state) (s .caller) (s .row) false (ltb 16777215 (s .value)) (c .before .before .before .before .may-write .result)
+    (sym (c .before .before .row-number .ensures) ∙ c .before .if1 .left) .0
 
 write-raw-requires : tie.Need-write-raw-requires
 write-raw-requires c κs = search needs
@@ -44,8 +47,9 @@ mul-rows c = search needs
 
 slice-write-rows : tie.Need-slice-write-rows
 slice-write-rows c =
-    let s = c .before .before .before .before .before .before .args in
-    raw-write-in (now (s .rows)) (s .state) (s .caller) (s .row) (s .value) (sym (c .before .before .before .write-raw-number .ensures) ∙ c .before .before .if1 .left)
+    let s = c .before .before .before .before .before .before .before .args in
+    row-passed (now (s .rows)) (s .state) (s .caller) (s .row) false (ltb 16777215 (s .value)) (c .before .before .before .before .before .may-write .result)
+    (sym (c .before .before .before .row-number .ensures) ∙ c .before .before .if1 .left) .0
 
 spent-requires : tie.Need-spent-requires
 spent-requires c κs = search needs
@@ -56,15 +60,16 @@ same-length-2 c = search needs
 returns-2 : tie.Need-returns-2
 unfolding writeRaw
 returns-2 c = (
-  rw (← c .before .before .before .before .write-raw-number .ensures, eq-eqb _ _ (c .before .before .before .if1 .left)) (simp (c .spent .ensures, c .before .write-raw .ensures)),
-  rw (← c .before .before .before .before .write-raw-number .ensures, eq-eqb _ _ (c .before .before .before .if1 .left)) (simp (c .before .write-raw .ensures)),
+  rw (← c .before .before .before .before .before .before .may-write .ensures, ← c .before .before .before .before .row-number .ensures, eq-eqb _ _ (c .before .before .before .if1 .left)) (simp (c .spent .ensures, c .before .write-raw .ensures)),
+  rw (← c .before .before .before .before .before .before .may-write .ensures, ← c .before .before .before .before .row-number .ensures, eq-eqb _ _ (c .before .before .before .if1 .left)) (simp (c .before .write-raw .ensures)),
 )
 
 pub write-raw-spec : {M : Type 1} → statement M
 write-raw-spec =
     tie.close
     (tie.spec
-    write-raw-number-requires
+    may-write-requires
+    row-number-requires
     refusal-requires
     same-length
     returns
