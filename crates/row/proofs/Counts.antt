@@ -163,3 +163,17 @@ parity-lt a = mod-lt (setBits a) two-pos
 pub fold : (d n : ℕ) → onesIn (d + d) n % 2 ≡ onesIn d (bitXor n (n / 2 ^ d)) % 2
 fold d n =
     ap (λ (x : ℕ). x % 2) (ones-split d d n) ∙ sum-parity (onesIn d n) (onesIn d (n / 2 ^ d)) ∙ sym (ones-xor d n (n / 2 ^ d))
+
+-- a count is at most the number of places that it looks at
+pub ones-le : (d n : ℕ) → onesIn d n ≤ d
+unfolding onesIn
+ones-le zero n = zero-le
+ones-le (suc d) n =
+    let low : n % 2 < 2 = mod-lt n two-pos in
+    let rest : onesIn d (n / 2) ≤ d = ones-le d (n / 2) in
+    omega arith
+
+-- one place more
+pub ones-more : (d n : ℕ) → onesIn (d + 1) n ≡ onesIn d n + bitAt d n
+unfolding onesIn
+ones-more d n = ones-split d 1 n ∙ ap (λ (x : ℕ). onesIn d n + x) (add-zero (bitAt d n))

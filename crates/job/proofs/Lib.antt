@@ -1,0 +1,4 @@
+pub mod Ahead
+pub mod Upward
+pub mod Whole
+pub mod Lowest

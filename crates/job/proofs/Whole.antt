@@ -1,0 +1,128 @@
+-- A rehearsal with enough pulses is the job, and 12,288 pulses are enough for any job that is accepted.
+-- Assumes nothing.
+use mathlib.Core.Path.{_≡_, refl, sym, ap, ap₂, _∙_, subst}
+use mathlib.Core.Bool.{Bool, true, false, not, _||_, _&&_}
+use mathlib.Core.List.{List, [], _∷_}
+use Prim.Native.Nat.{ℕ, zero, suc, _+_, _-_, _*_, _≤_, zero-le}
+use native.Mathlib.Nat.{le-refl}
+use native.Mathlib.Numerals.{one-add}
+use native.Mathlib.Omega.{arith}
+use borrow.Author.Tests.{le-leb, ltb-false, eqb-true}
+use lib.Bits.{bitAnd}
+use lib.Count.{onesIn}
+use lib.Dec.{eqb, ltb}
+use lib.ListN.{length}
+use Rattle.row.specs.Choice.{if_then_else_}
+use Rattle.row.specs.Code.{setBits, flipped, plain, inverted}
+use Rattle.row.specs.Reading.{dataOf}
+use Rattle.row.specs.Writing.{fits, pulses, burnt, kept, eccWritten, rawWritten}
+use Rattle.row.specs.declared.writing.Written.{Written}
+use Rattle.row.proofs.Counts.{ones-le}
+use Rattle.chip.proofs.Ladders.{never-zero, neither}
+use Rattle.chip.specs.declared.state.State.{State}
+use Rattle.job.specs.Burning.{Progress, writtenOver, withEntry, allWritten, allPulses, rehearsed}
+use Rattle.job.specs.Entries.{byteAt, versionOf, countOf, entriesFrom, entriesOf, anyBad, malformed, outOfOrder}
+use Rattle.job.specs.Jobs.{carriedOut, runJob, rehearse}
+use Rattle.job.specs.Verdicts.{entryWritten, judgedFrom, verdictOf}
+use Rattle.job.specs.declared.entries.Entry.{Entry}
+use Rattle.job.specs.declared.verdicts.Verdict.{Verdict}
+use Rattle.access.specs.Writes.{Left}
+
+-- ---- a row takes at most 24 pulses
+
+pub pulses-few : (old row : ℕ) → pulses old row ≤ 24
+unfolding pulses setBits
+pulses-few old row = ones-le 24 (bitAnd row (flipped old))
+
+ecc-few : (old value : ℕ) → eccWritten old value .pulses ≤ 24
+ecc-few old value = go (fits old (plain value)) (fits old (inverted value))
+  where
+    go : (p i : Bool)
+        → (if p then burnt old (plain value) else if i then burnt old (inverted value) else kept old 9) .pulses ≤ 24
+    go true i = pulses-few old (plain value)
+    go false true = pulses-few old (inverted value)
+    go false false = zero-le
+
+pub entry-few : (old : ℕ) (e : Entry) → entryWritten old e .pulses ≤ 24
+unfolding entryWritten
+entry-few old e = go (eqb (e .kind) 0)
+  where
+    go : (ecc : Bool) → (if ecc then eccWritten old (dataOf (e .value)) else rawWritten old (e .value)) .pulses ≤ 24
+    go true = ecc-few old (dataOf (e .value))
+    go false = pulses-few old _
+
+all-few : (es : List Entry) (rows : List ℕ) → allPulses rows es ≤ 24 * length es
+unfolding allPulses
+all-few [] rows = zero-le
+all-few (e ∷ others) rows =
+    let here : writtenOver rows e .pulses ≤ 24 = entry-few _ e in
+    let rest : allPulses (withEntry rows e) others ≤ 24 * length others = all-few others (withEntry rows e) in
+    omega arith
+
+-- ---- enough pulses
+
+abbrev progress : List ℕ → ℕ → ℕ → Progress
+progress rows spent place = record { rows = rows; pulses = spent; place = place }
+
+pub enough : (es : List Entry) (rows : List ℕ) (limit : ℕ) → allPulses rows es ≤ limit
+    → rehearsed rows limit es ≡ progress (allWritten rows es) (allPulses rows es) (length es)
+unfolding rehearsed allWritten allPulses
+enough [] rows limit h = refl
+enough (e ∷ others) rows limit h =
+    let u : ℕ = writtenOver rows e .pulses in
+    let here : u ≤ limit = omega arith in
+    let rest : allPulses (withEntry rows e) others ≤ limit - u = omega arith in
+    rw (le-leb u limit here, enough others (withEntry rows e) (limit - u) rest, one-add)
+
+length-entries : (job : List ℕ) (i n : ℕ) → length (entriesFrom job i n) ≡ n
+unfolding entriesFrom
+length-entries job i zero = refl
+length-entries job i (suc n) = ap suc (length-entries job (suc i) n)
+
+-- ---- a job that is accepted
+
+passed-verdict : (t : Bool) (n : ℕ) (rest : Verdict) → (if t then record { number = suc n; place = 0 } else rest) .number ≡ 0
+    → (t ≡ false) × (rest .number ≡ 0)
+passed-verdict true n rest e = absurd (never-zero n e)
+passed-verdict false n rest e = (refl, e)
+
+-- it is well formed and in order, and each entry is accepted
+pub accepted : (rows : List ℕ) (state : State) (job : List ℕ) → verdictOf rows state job .number ≡ 0
+    → (not (eqb (length rows) 4096) ≡ false) × (malformed job ≡ false) × (outOfOrder 0 (entriesOf job) ≡ false)
+    × (judgedFrom rows state 0 (entriesOf job) .number ≡ 0)
+unfolding verdictOf
+accepted rows state job e =
+    let one = passed-verdict (not (eqb (length rows) 4096)) 0 _ e in
+    let ten = passed-verdict (malformed job) 9 _ (one .1) in
+    let eleven = passed-verdict (outOfOrder 0 (entriesOf job)) 10 _ (ten .1) in
+    (one .0, ten .0, eleven .0, eleven .1)
+
+pub count-few : (job : List ℕ) → malformed job ≡ false → countOf job ≤ 512
+unfolding malformed
+count-few job e =
+    let head : Bool = ltb (length job) 7 || not (eqb (byteAt job 0) 0x4f && eqb (byteAt job 1) 0x54 && eqb (byteAt job 2) 0x4a)
+    || not (eqb (versionOf job) 1) in
+    let many : Bool = ltb 512 (countOf job) in
+    let long : Bool = not (eqb (length job) (7 + 6 * countOf job)) in
+    ltb-false 512 (countOf job) (neither head many (neither (head || many) long (neither (head || many || long) (anyBad (entriesOf job)) e .0) .0) .1)
+
+-- with 12,288 pulses a rehearsal is the job
+pub whole-job : (rows : List ℕ) (state : State) (job : List ℕ) → rehearse rows state job 12288 ≡ runJob rows state job
+unfolding rehearse runJob
+whole-job rows state job = go (eqb (verdictOf rows state job .number) 0) refl
+  where
+    finished : verdictOf rows state job .number ≡ 0
+        → rehearsed rows 12288 (entriesOf job) ≡ progress (allWritten rows (entriesOf job)) (allPulses rows (entriesOf job)) (countOf job)
+    finished e =
+        let few : countOf job ≤ 512 = count-few job (accepted rows state job e .1) in
+        let long : length (entriesOf job) ≡ countOf job = length-entries job 0 (countOf job) in
+        let bound : allPulses rows (entriesOf job) ≤ 24 * length (entriesOf job) = all-few (entriesOf job) rows in
+        enough (entriesOf job) rows 12288 (omega arith)
+        ∙ ap (progress (allWritten rows (entriesOf job)) (allPulses rows (entriesOf job))) long
+
+    go : (t : Bool) → eqb (verdictOf rows state job .number) 0 ≡ t
+        → carriedOut (verdictOf rows state job) rows state (rehearsed rows 12288 (entriesOf job))
+        ≡ carriedOut (verdictOf rows state job) rows state
+        (progress (allWritten rows (entriesOf job)) (allPulses rows (entriesOf job)) (countOf job))
+    go true e = ap (carriedOut (verdictOf rows state job) rows state) (finished (eqb-true _ 0 e))
+    go false e = rw e

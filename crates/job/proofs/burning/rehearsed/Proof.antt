@@ -1,0 +1,152 @@
+-- `job::burning::rehearsed` meets its contract. The invariant: what was burnt already, ahead of what is left, is the whole.
+-- Assumes nothing.
+use borrow.Author.Needs.{needs}
+use denote.Ref.{now}
+use mathlib.Core.Path.{_≡_, refl, sym, ap, ap₂, _∙_, subst}
+use Prim.Native.Nat.{ℕ, suc, _+_, _-_, _*_, _/_, _%_, _^_, _≤_, _<_}
+use native.Mathlib.Omega.{arith}
+use mathlib.Core.List.{List}
+use native.Mathlib.Nat.{add-zero, sub-self}
+use lib.ListN.{length, set, length-set}
+use Rattle.row.specs.declared.writing.Written.{Written}
+use Rattle.chip.specs.Lists.{entry}
+use Rattle.job.specs.Burning.{Progress, writtenOver, withEntry, burntUpward, rehearsed}
+use Rattle.job.specs.Entries.{entryAt, entriesFrom}
+use Rattle.job.specs.Verdicts.{entryWritten}
+use Rattle.job.specs.declared.entries.Entry.{Entry}
+use Rattle.job.proofs.Ahead.{ahead, none-ahead, one-ahead, burn-next, burn-stops, burn-ends}
+use Rattle.job.proofs.Upward.{all-left}
+use Rattle.job.proofs.burning.rehearsed.Statement.{statement}
+use Rattle.job.proofs.burning.rehearsed.Tie as tie
+
+abbrev Inv-loop : tie.InvT-loop
+Inv-loop rows₀ job count limit left₀ i₀ rows left i =
+    (i ≤ count) × (left ≤ limit) × (length rows ≡ length rows₀)
+    × (rehearsed rows₀ limit (entriesFrom job 0 count) ≡ ahead (limit - left) i (rehearsed rows left (entriesFrom job i (count - i))))
+
+abbrev μ-loop : tie.MeasureT-loop
+μ-loop rows₀ job count limit left₀ i₀ rows left i = count - i
+
+loop-holds : tie.Need-loop-holds Inv-loop μ-loop
+loop-holds c =
+    let s = c .before .before .args in (
+      search needs,
+      search needs,
+      refl,
+      ap (rehearsed (now (s .rows)) (s .limit)) (all-left (now (s .job)) (s .count))
+          ∙ none-ahead (rehearsed (now (s .rows)) (s .limit) (entriesFrom (now (s .job)) 0 (s .count - 0)))
+          ∙ ap (λ (spent : ℕ). ahead spent 0 (rehearsed (now (s .rows)) (s .limit) (entriesFrom (now (s .job)) 0 (s .count - 0)))) (sym (sub-self (s .limit))),
+    )
+
+entry-at-requires : tie.Need-entry-at-requires Inv-loop μ-loop
+entry-at-requires c κs = search needs
+
+entry-of-requires : tie.Need-entry-of-requires Inv-loop μ-loop
+entry-of-requires c κs = search needs
+
+entry-written-requires : tie.Need-entry-written-requires Inv-loop μ-loop
+entry-written-requires c κs = search needs
+
+burnt-upward-requires : tie.Need-burnt-upward-requires Inv-loop μ-loop
+burnt-upward-requires c κs = search needs
+
+put-requires : tie.Need-put-requires Inv-loop μ-loop
+put-requires c κs = search needs
+
+same-length : tie.Need-same-length Inv-loop μ-loop
+same-length c =
+    let l = c .before .before .before .before .before .before .before .before .before .before .before .loop in
+    ap length (c .before .before .put .ensures) ∙ length-set (l .rows) (c .before .before .before .before .before .before .before .before .before .entry-at .result .row) (c .before .before .before .burnt-upward .result) ∙ l .inv .2
+
+returns : tie.Need-returns Inv-loop μ-loop
+returns c =
+    let s = c .before .before .before .before .before .before .before .before .before .before .before .before .before .before .args in
+    let job = now (s .job) in
+    let l = c .before .before .before .before .before .before .before .before .before .before .before .loop in
+    let written : c .before .before .before .before .before .before .entry-written .result ≡ writtenOver (l .rows) (entryAt job (l .i)) =
+    c .before .before .before .before .before .before .entry-written .ensures ∙ ap (λ (old : ℕ). entryWritten old (c .before .before .before .before .before .before .before .before .before .entry-at .result)) (c .before .before .before .before .before .before .before .entry-of .ensures)
+    ∙ ap (λ (e : Entry). writtenOver (l .rows) e) (c .before .before .before .before .before .before .before .before .before .entry-at .ensures) in
+    let short : l .left < writtenOver (l .rows) (entryAt job (l .i)) .pulses =
+    subst (λ (w : Written). l .left < w .pulses) written (c .before .before .before .before .before .if1 .taken) in
+    let whole = l .inv .3 ∙ ap (ahead (s .limit - l .left) (l .i)) (burn-stops job (s .count) (l .rows) (l .left) (l .i) (omega arith) short) in
+    let row = ap (λ (e : Entry). e .row) (c .before .before .before .before .before .before .before .before .before .entry-at .ensures) in
+    let cut : c .before .before .before .burnt-upward .result ≡ burntUpward (l .left) (entry (l .rows) (entryAt job (l .i) .row)) (writtenOver (l .rows) (entryAt job (l .i)) .row) =
+    c .before .before .before .burnt-upward .ensures
+    ∙ ap₂ (burntUpward (l .left)) (c .before .before .before .before .before .before .before .entry-of .ensures ∙ ap (entry (l .rows)) row) (ap (λ (w : Written). w .row) written) in
+    let all : s .limit - l .left + l .left ≡ s .limit = omega arith in (
+      c .before .before .put .ensures ∙ ap₂ (set (l .rows)) row cut ∙ sym (ap (λ (p : Progress). p .rows) whole),
+      sym (ap (λ (p : Progress). p .pulses) whole ∙ all),
+      sym (ap (λ (p : Progress). p .place) whole ∙ add-zero (l .i)),
+    )
+
+put-requires-2 : tie.Need-put-requires-2 Inv-loop μ-loop
+put-requires-2 c κs = search needs
+
+add-i : tie.Need-add-i Inv-loop μ-loop
+add-i c = omega arith
+
+loop-less : tie.Need-loop-less Inv-loop μ-loop
+loop-less c = omega arith
+
+loop-again : tie.Need-loop-again Inv-loop μ-loop
+loop-again c =
+    let s = c .before .before .before .before .before .before .before .before .before .before .before .before .before .args in
+    let job = now (s .job) in
+    let l = c .before .before .before .before .before .before .before .before .before .before .loop in
+    let written : c .before .before .before .before .before .entry-written .result ≡ writtenOver (l .rows) (entryAt job (l .i)) =
+    c .before .before .before .before .before .entry-written .ensures ∙ ap (λ (old : ℕ). entryWritten old (c .before .before .before .before .before .before .before .before .entry-at .result)) (c .before .before .before .before .before .before .entry-of .ensures)
+    ∙ ap (λ (e : Entry). writtenOver (l .rows) e) (c .before .before .before .before .before .before .before .before .entry-at .ensures) in
+    let u : ℕ = c .before .before .before .before .before .entry-written .result .pulses in
+    let row = ap (λ (e : Entry). e .row) (c .before .before .before .before .before .before .before .before .entry-at .ensures) in
+    let next : c .before .before .put2 .last .0 ≡ withEntry (l .rows) (entryAt job (l .i)) =
+    c .before .before .put2 .ensures ∙ ap₂ (set (l .rows)) row (ap (λ (w : Written). w .row) written) in
+    let enough : u ≤ l .left = c .before .before .before .before .if1 .left in
+    let spent : s .limit - l .left + u ≡ s .limit - (l .left - u) = omega arith in (
+      omega arith,
+      omega arith,
+      ap length (c .before .before .put2 .ensures) ∙ length-set (l .rows) (c .before .before .before .before .before .before .before .before .entry-at .result .row) (c .before .before .before .before .before .entry-written .result .row) ∙ l .inv .2,
+      l .inv .3
+          ∙ ap (ahead (s .limit - l .left) (l .i))
+          (burn-next job (s .count) (l .rows) (l .left) (l .i) (omega arith) (c .before .before .put2 .last .0) u (ap (λ (w : Written). w .pulses) written) next enough)
+          ∙ one-ahead (s .limit - l .left) (l .i) u _
+          ∙ ap (λ (n : ℕ). ahead n (l .i + 1) (rehearsed (c .before .before .put2 .last .0) (l .left - u) (entriesFrom job (l .i + 1) (s .count - (l .i + 1))))) spent,
+    )
+
+sub-t22 : tie.Need-sub-t22 Inv-loop μ-loop
+sub-t22 c = omega arith
+
+same-length-2 : tie.Need-same-length-2 Inv-loop μ-loop
+same-length-2 c = c .before .loop .inv .2
+
+returns-2 : tie.Need-returns-2 Inv-loop μ-loop
+returns-2 c =
+    let s = c .before .before .before .before .args in
+    let l = c .before .loop in
+    let whole = l .inv .3 ∙ ap (ahead (s .limit - l .left) (l .i)) (burn-ends (now (s .job)) (s .count) (l .rows) (l .left) (l .i) (omega arith)) in
+    let all : l .i + 0 ≡ s .count = omega arith in (
+      sym (ap (λ (p : Progress). p .rows) whole),
+      sym (ap (λ (p : Progress). p .pulses) whole ∙ add-zero (s .limit - l .left)),
+      sym (ap (λ (p : Progress). p .place) whole ∙ all),
+    )
+
+pub rehearsed-spec : {M : Type 1} → statement M
+rehearsed-spec =
+    tie.close
+    (tie.spec
+    Inv-loop
+    μ-loop
+    loop-holds
+    entry-at-requires
+    entry-of-requires
+    entry-written-requires
+    burnt-upward-requires
+    put-requires
+    same-length
+    returns
+    put-requires-2
+    add-i
+    loop-less
+    loop-again
+    sub-t22
+    same-length-2
+    returns-2)

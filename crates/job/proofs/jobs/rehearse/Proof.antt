@@ -1,0 +1,57 @@
+-- `job::jobs::rehearse` meets its contract: a number that is not 0 is a refusal, and 0 leaves what the rehearsal reached.
+-- Assumes nothing.
+use borrow.Author.Needs.{needs}
+use borrow.Author.Tests.{eq-eqb, ne-eqb}
+use Rattle.job.specs.Jobs.{rehearse}
+use Rattle.job.proofs.jobs.rehearse.Statement.{statement}
+use Rattle.job.proofs.jobs.rehearse.Tie as tie
+
+verdict-of-requires : tie.Need-verdict-of-requires
+verdict-of-requires c κs = search needs
+
+answer-of-requires : tie.Need-answer-of-requires
+answer-of-requires c κs = search needs
+
+same-length : tie.Need-same-length
+same-length c = search needs
+
+returns : tie.Need-returns
+unfolding rehearse
+returns c = (
+  rw (← c .before .before .verdict-of .ensures, ne-eqb _ _ (c .before .if1 .taken)) (simp (c .answer-of .ensures)),
+  rw (← c .before .before .verdict-of .ensures, ne-eqb _ _ (c .before .if1 .taken)),
+)
+
+count-of-requires : tie.Need-count-of-requires
+count-of-requires c κs = search needs
+
+rehearsed-requires : tie.Need-rehearsed-requires
+rehearsed-requires c κs = search needs
+
+answer-of-requires-2 : tie.Need-answer-of-requires-2
+answer-of-requires-2 c κs = search needs
+
+same-length-2 : tie.Need-same-length-2
+same-length-2 c = search needs
+
+returns-2 : tie.Need-returns-2
+unfolding rehearse
+returns-2 c = (
+  rw (← c .before .before .before .before .before .before .before .verdict-of .ensures, eq-eqb _ _ (c .before .before .before .before .before .before .if1 .left), ← c .before .before .before .before .count-of .ensures)
+      (simp (c .answer-of2 .ensures, c .before .before .before .rehearsed .ensures .1, c .before .before .before .rehearsed .ensures .2)),
+  rw (← c .before .before .before .before .before .before .before .verdict-of .ensures, eq-eqb _ _ (c .before .before .before .before .before .before .if1 .left), ← c .before .before .before .before .count-of .ensures) (c .before .before .before .rehearsed .ensures .0),
+)
+
+pub rehearse-spec : {M : Type 1} → statement M
+rehearse-spec =
+    tie.close
+    (tie.spec
+    verdict-of-requires
+    answer-of-requires
+    same-length
+    returns
+    count-of-requires
+    rehearsed-requires
+    answer-of-requires-2
+    same-length-2
+    returns-2)

@@ -1,0 +1,26 @@
+-- `job::jobs::run_job` meets its contract: with 12,288 pulses a rehearsal is the job.
+-- Assumes nothing.
+use borrow.Author.Needs.{needs}
+use denote.Ref.{now}
+use mathlib.Core.List.{List}
+use mathlib.Core.Path.{ap, _∙_}
+use Prim.Native.Nat.{ℕ}
+use Rattle.access.specs.Writes.{Left}
+use Rattle.job.proofs.Whole.{whole-job}
+use Rattle.job.proofs.jobs.run_job.Statement.{statement}
+use Rattle.job.proofs.jobs.run_job.Tie as tie
+
+rehearse-requires : tie.Need-rehearse-requires
+rehearse-requires c κs = search needs
+
+same-length : tie.Need-same-length
+same-length c = search needs
+
+returns : tie.Need-returns
+returns c =
+    let s = c .before .before .before .before .before .before .args in
+    let whole = whole-job (now (s .rows)) (s .state) (now (s .job)) in
+    (c .before .before .rehearse .ensures .0 ∙ ap (λ (l : Left). l .outcome) whole, c .before .before .rehearse .ensures .1 ∙ ap (λ (l : Left). l .rows) whole)
+
+pub run-job-spec : {M : Type 1} → statement M
+run-job-spec = tie.close (tie.spec rehearse-requires same-length returns)

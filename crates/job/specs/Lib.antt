@@ -1,0 +1,4 @@
+pub mod Entries
+pub mod Verdicts
+pub mod Burning
+pub mod Jobs
