@@ -1,0 +1,88 @@
+-- Demands 1 and 2 of every call (document 01, "The numbers we answer with").
+use Prim.Native.Nat.{ℕ, _≤_}
+use mathlib.Core.Bool.{Bool, true, false}
+use mathlib.Core.List.{List, [], _∷_}
+use mathlib.Core.Logic.{_↔_}
+use mathlib.Core.Path.{_≡_}
+use lib.Bits.{bitOr}
+use lib.ListN.{set}
+use Rattle.row.specs.Answers.{found}
+use Rattle.row.specs.Code.{setBits, plain, inverted}
+use Rattle.row.specs.declared.answer.Condition.the-variants.{Clean}
+use Rattle.chip.specs.Calls.{resetNumber, reset, shownLevel}
+use Rattle.chip.specs.Lists.{entry}
+use Rattle.chip.specs.declared.state.State.{State}
+use Rattle.access.specs.Reads.{readEccNumber, readEcc}
+use Rattle.access.specs.Writes.{writeRaw, writeEccAllowed, writeEcc}
+use Rattle.laws.specs.Calls.{Chip, Call, Result, aReset, aRawWrite, anEccWrite, aJob, aRehearsal, perform, performAll}
+use Rattle.laws.specs.Writes.{In}
+
+-- every refusal returns value 0, condition clean and 0 pulses, and leaves each row and the state unchanged
+abbrev pub RefusalKeeps : Type 0
+RefusalKeeps =
+    (chip : Chip) (call : Call) → (perform chip call .answer .number ≡ 0 → ⊥)
+    → (perform chip call .answer .value ≡ 0) × (perform chip call .answer .condition ≡ Clean)
+    × (perform chip call .answer .pulses ≡ 0) × (perform chip call .chip ≡ chip)
+
+-- any two results that are what the definitions say are equal
+abbrev pub NoRoom : Type 0
+NoRoom = (chip : Chip) (call : Call) (a b : Result) → a ≡ perform chip call → b ≡ perform chip call → a ≡ b
+
+-- no burnt bit clears, over any calls
+abbrev pub NoBitClears : Type 0
+NoBitClears = (chip : Chip) (calls : List Call) (row : ℕ) → In (entry (chip .rows) row) (entry (performAll chip calls .rows) row)
+
+-- calls with no reset among them
+pub data NoReset : List Call → Type 0 where
+  none : NoReset []
+  more : {call : Call} {others : List Call} → (call ≡ aReset → ⊥) → NoReset others → NoReset (call ∷ others)
+
+-- until a reset no counted lock level falls, over any calls
+abbrev pub NoLockFalls : Type 0
+NoLockFalls =
+    (chip : Chip) (calls : List Call) (domain page : ℕ) → NoReset calls
+    → shownLevel (chip .state) domain page ≤ shownLevel (performAll chip calls .state) domain page
+
+-- an ECC write that isn't refused reads back as its value, by whoever may read it
+abbrev pub WriteReadsBack : Type 0
+WriteReadsBack =
+    (rows : List ℕ) (state : State) (writer reader row value : ℕ)
+    → writeEcc rows state writer row value .outcome .answer .number ≡ 0
+    → readEccNumber (writeEcc rows state writer row value .rows) state reader row ≡ 0
+    → readEcc (writeEcc rows state writer row value .rows) state reader row ≡ found value Clean
+
+-- a raw write only adds its bits
+abbrev pub RawAdds : Type 0
+RawAdds =
+    (rows : List ℕ) (state : State) (caller row value : ℕ) → writeRaw rows state caller row value .outcome .answer .number ≡ 0
+    → writeRaw rows state caller row value .rows ≡ set rows row (bitOr (entry rows row) value)
+
+-- an ECC write that gets so far is refused exactly if neither polarity holds every bit already burnt
+abbrev pub NineOfCall : Type 0
+NineOfCall =
+    (rows : List ℕ) (state : State) (caller row value : ℕ)
+    → (writeEcc rows state caller row value .outcome .answer .number ≡ 9)
+    ↔ ((writeEccAllowed rows state caller row value ≡ 0)
+    × (In (entry rows row) (plain value) → ⊥) × (In (entry rows row) (inverted value) → ⊥))
+
+-- with at most one bit set beforehand it is never refused so
+abbrev pub OneBitNeverNine : Type 0
+OneBitNeverNine =
+    (rows : List ℕ) (state : State) (caller row value : ℕ) → setBits (entry rows row) ≤ 1
+    → writeEcc rows state caller row value .outcome .answer .number ≡ 9 → ⊥
+
+-- soft locks fall back to the burnt ones at reset: what it latches goes by the rows alone
+abbrev pub SoftLocksFallBack : Type 0
+SoftLocksFallBack = (rows : List ℕ) (a b : State) → resetNumber rows ≡ 0 → reset rows a ≡ reset rows b
+
+-- writes, jobs and rehearsals
+pub data Burns : Call → Type 0 where
+  rawWrite : {caller row value : ℕ} → Burns (aRawWrite caller row value)
+  eccWrite : {caller row value : ℕ} → Burns (anEccWrite caller row value)
+  job : {bytes : List ℕ} → Burns (aJob bytes)
+  rehearsal : {bytes : List ℕ} {limit : ℕ} → Burns (aRehearsal bytes limit)
+
+-- burning a lock or key row, or any other, changes nothing latched
+abbrev pub BurningLatchesNothing : Type 0
+BurningLatchesNothing =
+    (chip : Chip) (call : Call) → Burns call → perform chip call .chip .state ≡ chip .state
