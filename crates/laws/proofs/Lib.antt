@@ -5,3 +5,4 @@ pub mod Writes
 pub mod Votes
 pub mod Choices
 pub mod Numbers
+pub mod Refusals

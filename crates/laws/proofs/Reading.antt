@@ -126,6 +126,15 @@ zeroOrEight row = go (read (looked row))
     go (repaired value place h l e) = inl refl
     go nothing = inr refl
 
+-- a row's own refusal is with 8
+pub refused-with-8 : (row : ℕ) → (readRow row .number ≡ 0 → ⊥) → readRow row ≡ refused 8
+refused-with-8 row = go (read (looked row))
+  where
+    go : {answer : Answer} → Read (looked row) answer → (answer .number ≡ 0 → ⊥) → answer ≡ refused 8
+    go (clean value h e) not-done = absurd (not-done refl)
+    go (repaired value place h l e) not-done = absurd (not-done refl)
+    go nothing not-done = refl
+
 -- some bits and the same with one of them flipped
 one-away : (place bits : ℕ) → place < 22 → distance bits (flippedAt place bits) ≤ 1
 unfolding setBits onesIn
