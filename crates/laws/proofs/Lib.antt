@@ -6,3 +6,4 @@ pub mod Votes
 pub mod Choices
 pub mod Numbers
 pub mod Refusals
+pub mod Burning
