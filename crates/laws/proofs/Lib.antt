@@ -7,3 +7,4 @@ pub mod Choices
 pub mod Numbers
 pub mod Refusals
 pub mod Burning
+pub mod Locking
