@@ -8,3 +8,4 @@ pub mod Numbers
 pub mod Refusals
 pub mod Burning
 pub mod Locking
+pub mod CallWrites
