@@ -1,10 +1,13 @@
-// Runs document 01's worked rows, and further vectors, against the code of `row`.
+// Runs document 01's worked rows and jobs, and further vectors, against the code of `row` and `job`.
 // Each line has what must be, what is, and the verdict. What must be is written out: from document
 // 01, or worked out from its masks apart from `row`.
 mod between;
 mod codes;
 mod damage;
 mod double_damage;
+mod job_cases;
+mod job_cuts;
+mod job_lines;
 mod print;
 mod read_lines;
 mod samples;
@@ -17,7 +20,9 @@ mod write_lines;
 mod writes;
 
 fn main() {
-    print::text(b"The code of row against document 01: what must be, what is, and the verdict\n");
+    print::text(
+        b"The code of row and job against document 01: what must be, what is, and the verdict\n",
+    );
     let start = tally::nothing_yet();
     let worked = worked_rows::run(start);
     let coded = codes::run(worked);
@@ -27,6 +32,8 @@ fn main() {
     let rewritten = between::run(written);
     let over_single_bits = single_bits::run(rewritten);
     let voted = votes::run(over_single_bits);
-    let all = vote_places::run(voted);
+    let places = vote_places::run(voted);
+    let jobs = job_cases::run(places);
+    let all = job_cuts::run(jobs);
     tally::last_line(all);
 }

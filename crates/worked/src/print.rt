@@ -50,6 +50,20 @@ pub fn two_wide(n: u32) {
     number(n);
 }
 
+pub fn three_wide(n: u32) {
+    if n < 100 {
+        text(b" ");
+    }
+    two_wide(n);
+}
+
+pub fn four_wide(n: u32) {
+    if n < 1000 {
+        text(b" ");
+    }
+    three_wide(n);
+}
+
 // "7 of 22 repaired"
 pub fn share(held: u32, of: u32, what: &[u8]) {
     number(held);
