@@ -3,3 +3,5 @@ pub mod Codes
 pub mod Reading
 pub mod Writes
 pub mod Votes
+pub mod Between
+pub mod Entries
