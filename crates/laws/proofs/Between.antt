@@ -2,10 +2,10 @@
 -- Assumes nothing.
 use mathlib.Core.List.{List, [], _∷_}
 use mathlib.Core.Path.{_≡_, refl, sym, ap, ap₂, _∙_}
-use Prim.Native.Nat.{ℕ, zero, suc, _+_, _<_}
+use Prim.Native.Nat.{ℕ, zero, suc, _+_, _≤_, _<_}
 use native.Mathlib.Nat.{le-of-suc-le-suc, not-suc-le-zero}
 use native.Mathlib.Omega.{arith}
-use lib.Bits.{and-comm}
+use lib.Bits.{and-comm, and-le-r}
 use lib.ListN.{length, set}
 use lib.Seq.{set-getD}
 use Rattle.row.specs.Writing.{pulses}
@@ -19,6 +19,9 @@ use Rattle.laws.proofs.Writes.{shared, inItself, inThrough, pulsesAdd, 
 
 in-both : (a b : ℕ) → In a b → In b a → a ≡ b
 in-both a b ab ba = sym (shared a b ab) ∙ and-comm a b ∙ shared b a ba
+
+pub in-le : (a b : ℕ) → In a b → a ≤ b
+in-le a b ab = rw (shared a b ab) at (and-le-r a b)
 
 pub each-self : (rows : List ℕ) → EachIn rows rows
 each-self [] = EachIn.none

@@ -5,3 +5,4 @@ pub mod Writes
 pub mod Votes
 pub mod Between
 pub mod Entries
+pub mod Rewriting
