@@ -6,3 +6,6 @@ pub mod Votes
 pub mod Between
 pub mod Entries
 pub mod Rewriting
+pub mod Latches
+pub mod Ranges
+pub mod Acceptance

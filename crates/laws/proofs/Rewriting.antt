@@ -30,7 +30,7 @@ pub data Fit (rows : List ℕ) (state : State) : ℕ → List Entry → Type 0 w
   more : {least : ℕ} {e : Entry} {others : List Entry} → least ≤ e .row → e .row < 0xf40 → e .value < 2 ^ 24
       → entryNumber rows state e ≡ 0 → Fit rows state (e .row + 1) others → Fit rows state least (e ∷ others)
 
-judged-done : (rows : List ℕ) (state : State) (e : Entry) → entryNumber rows state e ≡ 0
+pub judged-done : (rows : List ℕ) (state : State) (e : Entry) → entryNumber rows state e ≡ 0
     → (not (mayWrite state 0 (e .row)) ≡ false) × (entry rows (e .row) ≤ 16777215) × (writtenOver rows e .number ≡ 0)
 unfolding entryNumber
 judged-done rows state e done =
@@ -54,7 +54,7 @@ fit-agrees {left} {state} (Fit.more {e} low high small done rest) same =
     Fit.more low high small still (fit-agrees rest (λ k l. same k (omega arith)))
 
 -- one row burnt leaves those above it
-fit-next : {rows : List ℕ} {state : State} {others : List Entry} (at new : ℕ) → Fit rows state (at + 1) others
+pub fit-next : {rows : List ℕ} {state : State} {others : List Entry} (at new : ℕ) → Fit rows state (at + 1) others
     → Fit (set rows at new) state (at + 1) others
 fit-next {rows} at new rest = fit-agrees rest (λ k l. getD-set-other rows at k new 0 (λ same. omega arith))
 
