@@ -12,8 +12,8 @@ use Rattle.row.specs.Choice.{if_then_else_}
 use Rattle.chip.specs.declared.state.State.{State}
 use Rattle.chip.proofs.Ladders.{neither}
 use Rattle.access.specs.Writes.{Left}
-use Rattle.job.specs.Burning.{Progress}
-use Rattle.job.specs.Entries.{entryAt, entriesFrom, entriesOf, malformed, outOfOrder}
+use Rattle.job.specs.Burning.{Progress, allWritten, allPulses}
+use Rattle.job.specs.Entries.{countOf, entryAt, entriesFrom, entriesOf, malformed, outOfOrder}
 use Rattle.job.specs.Jobs.{answerOf, carriedOut, runJob}
 use Rattle.job.specs.Verdicts.{entryNumber, judgedFrom, verdictOf}
 use Rattle.job.specs.declared.entries.Entry.{Entry}
@@ -83,3 +83,17 @@ module _ (verdict : Verdict) (rows : List ℕ) (state : State) (done : Progress)
       → carriedOut verdict rows state done
       ≡ record { outcome = record { answer = answerOf 0 (done .place) (done .pulses); state = state }; rows = done .rows }
   carried accept = rw (eq-eqb (verdict .number) 0 accept)
+
+module _ (rows : List ℕ) (state : State) (job : List ℕ) where
+  pub run-number : runJob rows state job .outcome .answer .number ≡ 0 → verdictOf rows state job .number ≡ 0
+  unfolding runJob
+  run-number = carried-number (verdictOf rows state job) rows state _
+
+  pub ran : verdictOf rows state job .number ≡ 0
+      → runJob rows state job
+      ≡ record {
+        outcome = record { answer = answerOf 0 (countOf job) (allPulses rows (entriesOf job)); state = state };
+        rows = allWritten rows (entriesOf job);
+      }
+  unfolding runJob
+  ran = carried (verdictOf rows state job) rows state _

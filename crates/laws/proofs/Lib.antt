@@ -9,3 +9,4 @@ pub mod Rewriting
 pub mod Latches
 pub mod Ranges
 pub mod Acceptance
+pub mod CutPower
