@@ -10,3 +10,4 @@ pub mod Latches
 pub mod Ranges
 pub mod Acceptance
 pub mod CutPower
+pub mod RehearsalCut

@@ -110,7 +110,7 @@ sameEcc old between value done over = go (written old value) done
 -- ---- one bit set beforehand
 
 -- what flips a row has every bit
-all-set : (place : ℕ) → place < 24 → bitAt place 0xffffff ≡ 1
+pub all-set : (place : ℕ) → place < 24 → bitAt place 0xffffff ≡ 1
 all-set place h = eqb→eq (bitAt place 0xffffff) 1 (at-below 24 (λ k. eqb (bitAt k 0xffffff) 1) tt place h)
 
 in-at : (place row : ℕ) → bitAt place row ≡ 1 → In (2 ^ place) row
