@@ -1,17 +1,17 @@
--- An accepted job: its entries are accepted one by one and the other way round, and what it leaves.
+-- An accepted job: what its verdict says of each entry and the other way round, what it leaves, and all that holds on a chip just reset.
 -- Assumes nothing.
-use mathlib.Core.Bool.{Bool, true, false, not, _||_}
-use mathlib.Core.List.{List, [], _∷_}
-use mathlib.Core.Path.{_≡_, refl, sym, ap, _∙_}
+use mathlib.Core.Bool.{Bool, true, false, _||_}
+use mathlib.Core.List.{List}
+use mathlib.Core.Path.{_≡_, refl}
 use Prim.Native.Nat.{ℕ, zero, suc, _+_, _*_, _^_, _≤_, _<_}
 use native.Mathlib.Omega.{arith}
 use borrow.Author.Tests.{ltb-false, eqb-true, eqb-false, eq-eqb}
 use lib.Dec.{eqb, ltb}
 use lib.ListN.{length}
 use Rattle.row.specs.Choice.{if_then_else_}
+use Rattle.chip.specs.Latching.{allInRange}
 use Rattle.chip.specs.declared.state.State.{State}
 use Rattle.chip.proofs.Ladders.{neither}
-use Rattle.access.specs.Writes.{Left}
 use Rattle.job.specs.Burning.{Progress, allWritten, allPulses}
 use Rattle.job.specs.Entries.{countOf, entryAt, entriesFrom, entriesOf, malformed, outOfOrder}
 use Rattle.job.specs.Jobs.{answerOf, carriedOut, runJob}
@@ -19,10 +19,11 @@ use Rattle.job.specs.Verdicts.{entryNumber, judgedFrom, verdictOf}
 use Rattle.job.specs.declared.entries.Entry.{Entry}
 use Rattle.job.specs.declared.verdicts.Verdict.{Verdict}
 use Rattle.job.proofs.Whole.{accepted}
-use Rattle.laws.specs.Cuts.{Bytes}
+use Rattle.laws.specs.Cuts.{Keyed, ready, Bytes, acceptedOn}
+use Rattle.laws.proofs.Latches.{reset-passed}
 use Rattle.laws.proofs.Rewriting.{Fit}
 
--- ---- the verdict and the entries
+-- ---- the verdict, entry by entry
 
 value-small : (job : List ℕ) → Bytes job → (i : ℕ) → entryAt job i .value < 2 ^ 24
 unfolding entryAt
@@ -30,27 +31,27 @@ value-small job bytes i =
     let at : ℕ = 7 + 6 * i + 3 in
     omega (arith, bytes at, bytes (at + 1), bytes (at + 2))
 
-judged-next : (n at : ℕ) (rest : Verdict) → (if eqb n 0 then rest else record { number = n; place = at }) .number ≡ 0
+passed-entry : (n at : ℕ) (rest : Verdict) → (if eqb n 0 then rest else record { number = n; place = at }) .number ≡ 0
     → (n ≡ 0) × (rest .number ≡ 0)
-judged-next n at rest done = go (eqb n 0) refl
+passed-entry n at rest done = go (eqb n 0) refl
   where
     go : (t : Bool) → eqb n 0 ≡ t → (n ≡ 0) × (rest .number ≡ 0)
     go true none = (eqb-true n 0 none, rw none at done)
     go false some = absurd (eqb-false n 0 some (rw some at done))
 
 module _ (rows : List ℕ) (state : State) where
-  fit-from : (job : List ℕ) → Bytes job → (n i at least : ℕ) → outOfOrder least (entriesFrom job i n) ≡ false
+  judged-fit : (job : List ℕ) → Bytes job → (n i at least : ℕ) → outOfOrder least (entriesFrom job i n) ≡ false
       → judgedFrom rows state at (entriesFrom job i n) .number ≡ 0 → Fit rows state least (entriesFrom job i n)
   unfolding entriesFrom outOfOrder judgedFrom
-  fit-from job bytes zero i at least order done = Fit.none
-  fit-from job bytes (suc n) i at least order done =
+  judged-fit job bytes zero i at least order done = Fit.none
+  judged-fit job bytes (suc n) i at least order done =
       let e : Entry = entryAt job i in
       let rising = neither (ltb 0xf3f (e .row) || ltb (e .row) least) (outOfOrder (e .row + 1) (entriesFrom job (suc i) n)) order in
       let inside = neither (ltb 0xf3f (e .row)) (ltb (e .row) least) (rising .0) in
-      let judged = judged-next (entryNumber rows state e) at (judgedFrom rows state (at + 1) (entriesFrom job (suc i) n)) done in
+      let judged = passed-entry (entryNumber rows state e) at (judgedFrom rows state (at + 1) (entriesFrom job (suc i) n)) done in
       let high : e .row ≤ 0xf3f = ltb-false 0xf3f (e .row) (inside .0) in
       Fit.more {e = e} (ltb-false (e .row) least (inside .1)) (omega arith) (value-small job bytes i) (judged .0)
-      (fit-from job bytes n (suc i) (at + 1) (e .row + 1) (rising .1) (judged .1))
+      (judged-fit job bytes n (suc i) (at + 1) (e .row + 1) (rising .1) (judged .1))
 
   fit-judged : {least : ℕ} {es : List Entry} (at : ℕ) → Fit rows state least es → judgedFrom rows state at es .number ≡ 0
   unfolding judgedFrom
@@ -58,36 +59,25 @@ module _ (rows : List ℕ) (state : State) where
   fit-judged at (Fit.more {e} low high small done rest) =
       rw (eq-eqb (entryNumber rows state e) 0 done) (fit-judged (at + 1) rest)
 
-  module _ (job : List ℕ) where
-    pub fit-of : Bytes job → verdictOf rows state job .number ≡ 0 → Fit rows state 0 (entriesOf job)
-    fit-of bytes done =
-        let parts = accepted rows state job done in
-        fit-from job bytes _ 0 0 0 (parts .2) (parts .3)
-
-    pub verdict-of-fit : malformed job ≡ false → outOfOrder 0 (entriesOf job) ≡ false → length rows ≡ 4096
-        → Fit rows state 0 (entriesOf job) → verdictOf rows state job .number ≡ 0
-    unfolding verdictOf
-    verdict-of-fit formed order whole fit = rw (eq-eqb (length rows) 4096 whole, formed, order) (fit-judged 0 fit)
-
 -- ---- what is carried out
 
 module _ (verdict : Verdict) (rows : List ℕ) (state : State) (done : Progress) where
-  pub carried-number : carriedOut verdict rows state done .outcome .answer .number ≡ 0 → verdict .number ≡ 0
-  carried-number done-with = go (eqb (verdict .number) 0) refl
+  carried-number : carriedOut verdict rows state done .outcome .answer .number ≡ 0 → verdict .number ≡ 0
+  carried-number answered = go (eqb (verdict .number) 0) refl
     where
       go : (t : Bool) → eqb (verdict .number) 0 ≡ t → verdict .number ≡ 0
       go true none = eqb-true (verdict .number) 0 none
-      go false some = rw some at done-with
+      go false some = rw some at answered
 
   pub carried : verdict .number ≡ 0
       → carriedOut verdict rows state done
       ≡ record { outcome = record { answer = answerOf 0 (done .place) (done .pulses); state = state }; rows = done .rows }
-  carried accept = rw (eq-eqb (verdict .number) 0 accept)
+  carried none = rw (eq-eqb (verdict .number) 0 none)
 
 module _ (rows : List ℕ) (state : State) (job : List ℕ) where
-  pub run-number : runJob rows state job .outcome .answer .number ≡ 0 → verdictOf rows state job .number ≡ 0
+  ran-number : runJob rows state job .outcome .answer .number ≡ 0 → verdictOf rows state job .number ≡ 0
   unfolding runJob
-  run-number = carried-number (verdictOf rows state job) rows state _
+  ran-number = carried-number (verdictOf rows state job) rows state _
 
   pub ran : verdictOf rows state job .number ≡ 0
       → runJob rows state job
@@ -97,3 +87,31 @@ module _ (rows : List ℕ) (state : State) (job : List ℕ) where
       }
   unfolding runJob
   ran = carried (verdictOf rows state job) rows state _
+
+-- ---- on a chip just reset
+
+pub record Accepted (rows : List ℕ) (state : State) (job : List ℕ) : Type 0 where
+  pub whole : length rows ≡ 4096
+  pub small : allInRange rows ≡ true
+  pub formed : malformed job ≡ false
+  pub order : outOfOrder 0 (entriesOf job) ≡ false
+  pub fit : Fit rows state 0 (entriesOf job)
+
+pub accepted-verdict : {rows : List ℕ} {state : State} {job : List ℕ} → Accepted rows state job → verdictOf rows state job .number ≡ 0
+unfolding verdictOf
+accepted-verdict {rows} {state} a =
+    rw (eq-eqb (length rows) 4096 (a .whole), a .formed, a .order) (fit-judged rows state 0 (a .fit))
+
+pub accepted-on : (rows : List ℕ) (before : State) (key : Keyed) (job : List ℕ) → Bytes job → acceptedOn rows before key job
+    → Accepted rows (ready rows before key) job
+accepted-on rows before key job bytes accept =
+    let state : State = ready rows before key in
+    let slice = reset-passed rows (accept .0) in
+    let parts = accepted rows state job (ran-number rows state job (accept .1)) in
+    record {
+      whole = slice .0;
+      small = slice .1;
+      formed = parts .1;
+      order = parts .2;
+      fit = judged-fit rows state job bytes _ 0 0 0 (parts .2) (parts .3);
+    }

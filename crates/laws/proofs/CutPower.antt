@@ -1,26 +1,23 @@
 -- Demand 3: a job cut any number of times leaves, once it is run to its end, the rows of the uncut run, for the same pulses in all.
 -- Assumes nothing.
-use mathlib.Core.Bool.{true, false}
-use mathlib.Core.List.{List, [], _∷_}
-use mathlib.Core.Path.{_≡_, refl, sym, ap, ap₂, _∙_}
+use mathlib.Core.List.{List}
+use mathlib.Core.Path.{_≡_, sym, ap, ap₂, _∙_}
 use Prim.Native.Nat.{ℕ, _+_}
-use native.Mathlib.Omega.{arith}
 use lib.ListN.{length}
 use Rattle.chip.specs.Calls.{resetNumber}
 use Rattle.chip.specs.declared.state.State.{State}
 use Rattle.access.specs.Writes.{Left}
-use Rattle.job.specs.Burning.{writtenOver, withEntry, allWritten, allPulses}
+use Rattle.job.specs.Burning.{writtenOver, withEntry, allWritten}
 use Rattle.job.specs.Entries.{entriesOf}
-use Rattle.job.specs.Verdicts.{verdictOf}
+use Rattle.job.specs.Jobs.{runJob}
 use Rattle.job.specs.declared.entries.Entry.{Entry}
-use Rattle.job.proofs.Whole.{accepted}
 use Rattle.laws.specs.Votes.{EachIn}
-use Rattle.laws.specs.Cuts.{Keyed, ready, Bytes, acceptedOn, CutOf, newlySet, Cuts, CutPower, PulsesAreNewBits}
+use Rattle.laws.specs.Cuts.{ready, CutOf, newlySet, Cuts, CutPower, PulsesAreNewBits}
 use Rattle.laws.proofs.Between.{each-self, each-through, each-length, each-set, each-over, each-held, new-through, new-none}
 use Rattle.laws.proofs.Rewriting.{Fit, with-keeps, all-keep, outside, all-pulses, again}
-use Rattle.laws.proofs.Latches.{reset-passed, reset-done, ready-same}
+use Rattle.laws.proofs.Latches.{reset-done, ready-same}
 use Rattle.laws.proofs.Ranges.{range-under, range-written}
-use Rattle.laws.proofs.Acceptance.{fit-of, verdict-of-fit, run-number, ran}
+use Rattle.laws.proofs.Acceptance.{ran, Accepted, accepted-verdict, accepted-on}
 
 -- ---- what cuts leave lies between
 
@@ -47,47 +44,47 @@ cuts-between state {es} {rows} whole fit (Cuts.once {between} cut cuts) =
       ap (λ (spent : ℕ). newlySet rows between + spent) (rest .2) ∙ new-through (first .0) (rest .0),
     )
 
--- ---- an accepted job
+-- ---- a job accepted is accepted again over rows between, and leaves the same
 
-module _ (rows : List ℕ) (before : State) (key : Keyed) (job : List ℕ) (bytes : Bytes job) (accept : acceptedOn rows before key job) where
-  pub verdict : verdictOf rows (ready rows before key) job .number ≡ 0
-  verdict = run-number rows (ready rows before key) job (accept .1)
+module _ {rows left : List ℕ} {state : State} {job : List ℕ} (a : Accepted rows state job)
+    (over : EachIn rows left) (under : EachIn left (allWritten rows (entriesOf job))) where
+  accepted-again : Accepted left state job
+  accepted-again = record {
+    whole = sym (each-length over) ∙ a .whole;
+    small = range-under under (range-written state (entriesOf job) rows (a .fit) (a .small));
+    formed = a .formed;
+    order = a .order;
+    fit = again state (entriesOf job) rows left (a .whole) (a .fit) over under .0;
+  }
 
-  pub fit : Fit rows (ready rows before key) 0 (entriesOf job)
-  fit = fit-of rows (ready rows before key) job bytes verdict
+  same-rows : allWritten left (entriesOf job) ≡ allWritten rows (entriesOf job)
+  same-rows = again state (entriesOf job) rows left (a .whole) (a .fit) over under .1
 
-  pub whole : length rows ≡ 4096
-  whole = reset-passed rows (accept .0) .0
+pulses-new : {rows : List ℕ} {state : State} {job : List ℕ} → Accepted rows state job
+    → runJob rows state job .outcome .answer .pulses ≡ newlySet rows (allWritten rows (entriesOf job))
+pulses-new {rows} {state} {job} a =
+    ap (λ (l : Left). l .outcome .answer .pulses) (ran rows state job (accepted-verdict a))
+    ∙ all-pulses state (entriesOf job) rows (a .whole) (a .fit)
 
 pub pulsesAreNewBits : PulsesAreNewBits
-pulsesAreNewBits rows before key job bytes accept =
-    ap (λ (l : Left). l .outcome .answer .pulses) (ran rows (ready rows before key) job (verdict rows before key job bytes accept))
-    ∙ all-pulses (ready rows before key) (entriesOf job) rows (whole rows before key job bytes accept) (fit rows before key job bytes accept)
+pulsesAreNewBits rows before key job bytes accept = pulses-new (accepted-on rows before key job bytes accept)
 
 pub cutPower : CutPower
 cutPower rows left before later key job spent bytes accept cuts =
-    let es : List Entry = entriesOf job in
-    let state : State = ready rows before key in
-    let judged = verdict rows before key job bytes accept in
-    let parts = accepted rows state job judged in
-    let entries = fit rows before key job bytes accept in
-    let long = whole rows before key job bytes accept in
-    let between = cuts-between state long entries cuts in
-    let left-long = sym (each-length (between .0)) ∙ long in
-    let reset-again = reset-done left left-long (range-under (between .1) (range-written state es rows entries (reset-passed rows (accept .0) .1))) in
-    let same = ready-same rows left before later key (accept .0) reset-again
-    (λ k high. each-held k (between .0) (between .1) (outside es k entries (λ l. high))) in
-    let next = again state es rows left long entries (between .0) (between .1) in
-    let judged-again : verdictOf left (ready left later key) job .number ≡ 0 =
-    rw same (verdict-of-fit left state job (parts .1) (parts .2) left-long (next .0)) in
-    let run = ran rows state job judged in
-    let run-again = ran left (ready left later key) job judged-again in (
-      (reset-again, ap (λ (l : Left). l .outcome .answer .number) run-again),
-      ap (λ (l : Left). l .rows) run-again ∙ next .1,
-      ap (λ (l : Left). l .rows) run,
-      ap₂ _+_ (between .2)
-          (ap (λ (l : Left). l .outcome .answer .pulses) run-again ∙ all-pulses state es left left-long (next .0)
-          ∙ ap (newlySet left) (next .1))
+    let first = accepted-on rows before key job bytes accept in
+    let between = cuts-between (ready rows before key) (first .whole) (first .fit) cuts in
+    let next = accepted-again first (between .0) (between .1) in
+    let same = same-rows first (between .0) (between .1) in
+    let done : resetNumber left ≡ 0 = reset-done left (next .whole) (next .small) in
+    let state : ready left later key ≡ ready rows before key =
+    ready-same rows left before later key (accept .0) done
+    (λ k high. each-held k (between .0) (between .1) (outside (entriesOf job) k (first .fit) (λ low. high))) in
+    let run = ran left (ready rows before key) job (accepted-verdict next) in
+    rw state (
+      (done, ap (λ (l : Left). l .outcome .answer .number) run),
+      ap (λ (l : Left). l .rows) run ∙ same,
+      ap (λ (l : Left). l .rows) (ran rows (ready rows before key) job (accepted-verdict first)),
+      ap₂ _+_ (between .2) (pulses-new next ∙ ap (newlySet left) same)
           ∙ new-through (between .0) (between .1)
-          ∙ sym (pulsesAreNewBits rows before key job bytes accept),
+          ∙ sym (pulses-new first),
     )

@@ -1,7 +1,7 @@
 -- One entry of a job written over a row: the bits it keeps, its pulses, its size, and that it can be written again.
 -- Assumes nothing.
 use mathlib.Core.Bool.{Bool, true, false}
-use mathlib.Core.Path.{_≡_, refl, sym, ap, _∙_}
+use mathlib.Core.Path.{_≡_, refl, sym}
 use Prim.Native.Nat.{ℕ, _^_, _<_}
 use native.Mathlib.Nat.{mod-lt}
 use native.Mathlib.Omega.{arith}
@@ -9,7 +9,7 @@ use lib.Bits.{or-lt, xor-lt}
 use lib.Dec.{eqb}
 use lib.Pow.{pow-pos}
 use Rattle.row.specs.Choice.{if_then_else_}
-use Rattle.row.specs.Code.{code, plain, inverted}
+use Rattle.row.specs.Code.{code}
 use Rattle.row.specs.Reading.{dataOf}
 use Rattle.row.specs.Writing.{pulses, eccWritten, rawWritten}
 use Rattle.row.specs.declared.writing.Written.{Written}

@@ -1,13 +1,13 @@
 -- Reset: what it asks of a slice, and that what it latches stands in the rows from 0xf40 up.
 -- Assumes nothing.
-use mathlib.Core.Bool.{Bool, true, false, not, _&&_}
-use mathlib.Core.List.{List, [], _∷_}
-use mathlib.Core.Path.{_≡_, refl, sym, ap, ap₂, _∙_}
-use Prim.Native.Nat.{ℕ, zero, suc, _+_, _^_, _≤_, _<_}
+use mathlib.Core.Bool.{true, not}
+use mathlib.Core.List.{List}
+use mathlib.Core.Path.{_≡_, refl, sym, ap, _∙_}
+use Prim.Native.Nat.{ℕ, zero, suc, _+_, _≤_}
 use native.Mathlib.Omega.{arith}
-use borrow.Author.Tests.{eqb-true, eq-eqb, not-false, leb-true, le-leb}
-use lib.Dec.{eqb, leb}
-use lib.ListN.{length, set}
+use borrow.Author.Tests.{eq-eqb, not-false}
+use lib.Dec.{eqb}
+use lib.ListN.{length}
 use Rattle.chip.specs.Calls.{resetNumber, reset, enterKey}
 use Rattle.chip.specs.Keys.{keyRow, validRow, allDecode}
 use Rattle.chip.specs.Latching.{allInRange, latched}
@@ -15,6 +15,7 @@ use Rattle.chip.specs.Lists.{entry}
 use Rattle.chip.specs.Pages.{lowLockRow, highLockRow}
 use Rattle.chip.specs.declared.state.State.{State}
 use Rattle.chip.proofs.Ladders.{passed}
+use Rattle.access.proofs.Passing.{whole}
 use Rattle.laws.specs.Cuts.{Keyed, noKeyEntered, keyEntered, ready}
 
 -- ---- two slices that agree from 0xf40 up
@@ -41,10 +42,10 @@ pub reset-passed : (rows : List ℕ) → resetNumber rows ≡ 0 → (length rows
 reset-passed rows e =
     let one = passed (not (eqb (length rows) 4096)) 0 _ e in
     let three = passed (not (allInRange rows)) 2 0 (one .1) in
-    (eqb-true (length rows) 4096 (not-false (eqb (length rows) 4096) (one .0)), not-false (allInRange rows) (three .0))
+    (whole rows (one .0), not-false (allInRange rows) (three .0))
 
 pub reset-done : (rows : List ℕ) → length rows ≡ 4096 → allInRange rows ≡ true → resetNumber rows ≡ 0
-reset-done rows whole small = rw (eq-eqb (length rows) 4096 whole, small)
+reset-done rows long small = rw (eq-eqb (length rows) 4096 long, small)
 
 -- ---- the state of a chip just reset
 

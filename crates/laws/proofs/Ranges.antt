@@ -1,6 +1,6 @@
 -- Entries in range: they stay so where a row is put in, in a slice below, and where an accepted job is written.
 -- Assumes nothing.
-use mathlib.Core.Bool.{Bool, true, false, _&&_}
+use mathlib.Core.Bool.{true, and-eq-true-iff}
 use mathlib.Core.List.{List, [], _∷_}
 use mathlib.Core.Path.{_≡_, refl}
 use Prim.Native.Nat.{ℕ, zero, suc, _^_, _≤_, _<_}
@@ -18,23 +18,19 @@ use Rattle.laws.proofs.Between.{in-le}
 use Rattle.laws.proofs.Entries.{entry-small}
 use Rattle.laws.proofs.Rewriting.{Fit, judged-done, fit-next}
 
-both : (a b : Bool) → (a && b) ≡ true → (a ≡ true) × (b ≡ true)
-both true b e = (refl, e)
-both false b e = absurd (let z : _≡_ {A = ℕ} 0 1 = cc in omega arith)
-
 range-set : (rows : List ℕ) (k new : ℕ) → allInRange rows ≡ true → new ≤ 16777215 → allInRange (set rows k new) ≡ true
 unfolding allInRange
 range-set [] k new small low = refl
-range-set (row ∷ rows) zero new small low = rw (le-leb new 16777215 low) (both (leb row 16777215) (allInRange rows) small .1)
+range-set (row ∷ rows) zero new small low = rw (le-leb new 16777215 low) (and-eq-true-iff (leb row 16777215) (allInRange rows) .0 small .1)
 range-set (row ∷ rows) (suc k) new small low =
-    let parts = both (leb row 16777215) (allInRange rows) small in
+    let parts = and-eq-true-iff (leb row 16777215) (allInRange rows) .0 small in
     rw (parts .0) (range-set rows k new (parts .1) low)
 
 pub range-under : {a b : List ℕ} → EachIn a b → allInRange b ≡ true → allInRange a ≡ true
 unfolding allInRange
 range-under EachIn.none small = refl
 range-under (EachIn.more {old} {new} {news} one rest) small =
-    let parts = both (leb new 16777215) (allInRange news) small in
+    let parts = and-eq-true-iff (leb new 16777215) (allInRange news) .0 small in
     let low : old ≤ 16777215 = omega (arith, in-le old new one, leb-true new 16777215 (parts .0)) in
     rw (le-leb old 16777215 low) (range-under rest (parts .1))
 

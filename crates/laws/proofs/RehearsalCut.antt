@@ -3,98 +3,34 @@
 use mathlib.Core.Bool.{Bool, true, false}
 use mathlib.Core.List.{List, [], _∷_}
 use mathlib.Core.Path.{_≡_, refl, sym, ap, ap₂, _∙_}
-use Prim.Native.Nat.{ℕ, zero, suc, _+_, _-_, _*_, _%_, _^_, _≤_, _<_, min, max}
-use native.Mathlib.Nat.{add-comm, mod-one, mod-lt, le-refl}
-use native.Mathlib.Numerals.{add-one, one-add}
+use Prim.Native.Nat.{ℕ, _+_, _-_, _≤_, min, max}
 use native.Mathlib.Omega.{arith}
-use borrow.Author.Tests.{leb-true, leb-false, ltb-false}
-use lib.Bits.{bitAnd, bitOr, differ, and-mask}
-use lib.Count.{onesIn}
-use lib.Dec.{leb, ltb}
+use borrow.Author.Tests.{leb-false}
+use lib.Bits.{bitAnd, bitOr, differ}
+use lib.Dec.{leb}
 use lib.ListN.{length, set, length-set}
-use lib.Pow.{pow-pos, mod-pow-add}
-use Rattle.row.specs.Choice.{if_then_else_}
 use Rattle.row.specs.Code.{setBits, flipped}
 use Rattle.row.specs.Voting.{bitAt}
 use Rattle.row.specs.Writing.{pulses}
-use Rattle.row.proofs.Counts.{ones-more, ones-low, ones-wider}
+use Rattle.row.proofs.Counts.{ones-same}
 use Rattle.row.proofs.Digits.{equal3}
-use Rattle.row.proofs.Places.{bit-lt, bit-low, bit-and, bit-or, bit-xor, by-digits, and-assoc, and-or, same-below}
+use Rattle.row.proofs.Places.{bit-lt, bit-and, bit-or, bit-xor, by-digits, and-assoc, and-or}
 use Rattle.chip.specs.Lists.{entry}
 use Rattle.chip.specs.declared.state.State.{State}
-use Rattle.access.specs.Writes.{Left}
-use Rattle.job.specs.Burning.{Progress, writtenOver, withEntry, lowestBelow, burntUpward, rehearsed}
+use Rattle.job.specs.Burning.{Progress, writtenOver, withEntry, burntUpward, rehearsed}
 use Rattle.job.specs.Entries.{entriesOf}
 use Rattle.job.specs.Jobs.{rehearse}
 use Rattle.job.specs.Verdicts.{verdictOf}
 use Rattle.job.specs.declared.entries.Entry.{Entry}
-use Rattle.job.proofs.Lowest.{lowest-left}
+use Rattle.job.proofs.Lowest.{lowest-masked}
 use Rattle.laws.specs.Writes.{In}
 use Rattle.laws.specs.Cuts.{ready, CutOf, newlySet, RehearsalCuts}
 use Rattle.laws.proofs.Writes.{shared, in-shared, all-set}
 use Rattle.laws.proofs.Between.{new-through, new-none, new-set}
 use Rattle.laws.proofs.Entries.{entry-keeps, entry-pulses}
 use Rattle.laws.proofs.Rewriting.{Fit, fit-next, with-keeps}
-use Rattle.laws.proofs.Acceptance.{carried}
-use Rattle.laws.proofs.CutPower.{cut-between, verdict, fit, whole}
-
--- TO MOVE
-
-ones-same : (d a b : ℕ) → ((k : ℕ) → k < d → bitAt k a ≡ bitAt k b) → onesIn d a ≡ onesIn d b
-ones-same d a b e =
-    sym (ones-low d a)
-    ∙ ap (onesIn d) (same-below d (a % 2 ^ d) (b % 2 ^ d) (mod-lt a (pow-pos d)) (mod-lt b (pow-pos d)) (λ k l. bit-low d k a l ∙ e k l ∙ sym (bit-low d k b l)))
-    ∙ ones-low d b
-
-taken-all : (place n bits : ℕ) → onesIn (place + 1) bits ≤ n → (if ltb (onesIn place bits) n then bitAt place bits else 0) ≡ bitAt place bits
-taken-all place n bits few = go (ltb (onesIn place bits) n) refl
-  where
-    go : (t : Bool) → ltb (onesIn place bits) n ≡ t → (if t then bitAt place bits else 0) ≡ bitAt place bits
-    go true more = refl
-    go false none = omega (arith, ones-more place bits, ltb-false (onesIn place bits) n none)
-
--- where at most n are set, all are taken
-lowest-all : (places n bits : ℕ) → onesIn places bits ≤ n → lowestBelow places n bits ≡ bits % 2 ^ places
-unfolding lowestBelow
-lowest-all zero n bits few = sym (mod-one bits)
-lowest-all (suc place) n bits few =
-    let here : onesIn (place + 1) bits ≤ n = rw add-one few in
-    ap₂ (λ (low taken : ℕ). low + taken * 2 ^ place)
-    (lowest-all place n bits (omega (arith, ones-more place bits))) (taken-all place n bits here)
-    ∙ add-comm (bits % 2 ^ place) (bitAt place bits * 2 ^ place) ∙ sym (mod-pow-add bits 1 place) ∙ ap (λ (j : ℕ). bits % 2 ^ j) (one-add place)
-
-abbrev Cropped : ℕ → ℕ → ℕ → Type 0
-Cropped places n bits = (width : ℕ) × (width ≤ places) × (lowestBelow places n bits ≡ bits % 2 ^ width) × (onesIn width bits ≡ n)
-
--- where at least n are set, those taken are all the bits below some place
-lowest-some : (places n bits : ℕ) → n ≤ onesIn places bits → Cropped places n bits
-unfolding onesIn
-lowest-some zero n bits enough = (0, le-refl 0, lowest-all zero n bits (omega arith), omega arith)
-lowest-some (suc place) n bits enough = go (leb n (onesIn place bits)) refl (lowest-some place n bits)
-  where
-    go : (t : Bool) → leb n (onesIn place bits) ≡ t → (n ≤ onesIn place bits → Cropped place n bits) → Cropped (suc place) n bits
-    go true below rest =
-        let l : n ≤ onesIn place bits = leb-true n (onesIn place bits) below in
-        let found = rest l in
-        (found .0, omega arith, rw add-one at (lowest-left place n bits l) ∙ found .2, found .3)
-    go false above rest =
-        let more : onesIn (suc place) bits ≡ onesIn place bits + bitAt place bits = rw add-one at (ones-more place bits) in
-        let few : onesIn place bits < n = leb-false n (onesIn place bits) above in
-        let one : bitAt place bits < 2 = bit-lt place bits in
-        (suc place, le-refl (suc place), lowest-all (suc place) n bits (omega arith), omega arith)
-
--- the n lowest are what a mask leaves, and they are n
-lowest-masked : (places n bits : ℕ) → n ≤ onesIn places bits
-    → (mask : ℕ) × (lowestBelow places n bits ≡ bitAnd bits mask) × (onesIn places (bitAnd bits mask) ≡ n)
-lowest-masked places n bits enough =
-    let found = lowest-some places n bits enough in
-    let width : ℕ = found .0 in
-    let cut : bitAnd bits (2 ^ width - 1) ≡ bits % 2 ^ width = and-mask bits width in
-    let wide : width + (places - width) ≡ places = omega arith in (
-      2 ^ width - 1,
-      found .2 ∙ sym cut,
-      ap₂ onesIn (sym wide) cut ∙ ones-wider width (places - width) (bits % 2 ^ width) (mod-lt bits (pow-pos width)) ∙ ones-low width bits ∙ found .3,
-    )
+use Rattle.laws.proofs.Acceptance.{carried, accepted-verdict, accepted-on}
+use Rattle.laws.proofs.CutPower.{cut-between}
 
 -- ---- a row burnt for some of its pulses
 
@@ -178,5 +114,6 @@ pub rehearsalCuts : RehearsalCuts
 unfolding rehearse
 rehearsalCuts rows before key job limit bytes accept =
     let state : State = ready rows before key in
-    rw (carried (verdictOf rows state job) rows state (rehearsed rows limit (entriesOf job)) (verdict rows before key job bytes accept))
-    (rehearsed-cut state (entriesOf job) rows limit (whole rows before key job bytes accept) (fit rows before key job bytes accept))
+    let a = accepted-on rows before key job bytes accept in
+    rw (carried (verdictOf rows state job) rows state (rehearsed rows limit (entriesOf job)) (accepted-verdict a))
+    (rehearsed-cut state (entriesOf job) rows limit (a .whole) (a .fit))

@@ -1,9 +1,9 @@
 -- The entries of an accepted job written in turn, and written again over rows that lie between: the same rows.
 -- Assumes nothing.
-use mathlib.Core.Bool.{Bool, true, false, not}
+use mathlib.Core.Bool.{false, not}
 use mathlib.Core.List.{List, [], _∷_}
 use mathlib.Core.Path.{_≡_, refl, sym, ap, ap₂, _∙_}
-use Prim.Native.Nat.{ℕ, suc, _+_, _^_, _≤_, _<_}
+use Prim.Native.Nat.{ℕ, _+_, _^_, _≤_, _<_}
 use native.Mathlib.Omega.{arith}
 use borrow.Author.Tests.{ltb-false, le-ltb}
 use lib.Dec.{ltb}
@@ -14,7 +14,7 @@ use Rattle.chip.specs.Permission.{mayWrite}
 use Rattle.chip.specs.declared.state.State.{State}
 use Rattle.chip.proofs.Ladders.{passed}
 use Rattle.job.specs.Burning.{writtenOver, withEntry, allWritten, allPulses}
-use Rattle.job.specs.Verdicts.{entryWritten, entryNumber}
+use Rattle.job.specs.Verdicts.{entryNumber}
 use Rattle.job.specs.declared.entries.Entry.{Entry}
 use Rattle.laws.specs.Votes.{EachIn}
 use Rattle.laws.specs.Cuts.{newlySet}

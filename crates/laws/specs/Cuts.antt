@@ -1,14 +1,13 @@
 -- Demand 3: power cut while a job runs (document 01, "Jobs").
 use Prim.Native.Nat.{ℕ, _+_, _<_}
-use mathlib.Core.Bool.{true}
 use mathlib.Core.List.{List, [], _∷_}
 use mathlib.Core.Path.{_≡_}
-use lib.ListN.{length, getD, set}
+use lib.ListN.{getD, set}
 use Rattle.row.specs.Writing.{pulses}
 use Rattle.chip.specs.Calls.{resetNumber, reset, enterKey}
 use Rattle.chip.specs.Lists.{entry}
 use Rattle.chip.specs.declared.state.State.{State}
-use Rattle.job.specs.Burning.{writtenOver, withEntry, allWritten, allPulses, rehearsed}
+use Rattle.job.specs.Burning.{writtenOver, withEntry, allWritten}
 use Rattle.job.specs.Entries.{entriesOf}
 use Rattle.job.specs.Jobs.{runJob, rehearse}
 use Rattle.job.specs.declared.entries.Entry.{Entry}
