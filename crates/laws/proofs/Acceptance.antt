@@ -21,7 +21,7 @@ use Rattle.job.specs.declared.verdicts.Verdict.{Verdict}
 use Rattle.job.proofs.Whole.{accepted}
 use Rattle.laws.specs.Cuts.{Keyed, ready, Bytes, acceptedOn}
 use Rattle.laws.proofs.Latches.{reset-passed}
-use Rattle.laws.proofs.Rewriting.{Fit}
+use Rattle.laws.proofs.Rewriting.{Admitted}
 
 -- ---- the verdict, entry by entry
 
@@ -40,24 +40,24 @@ passed-entry n at rest done = go (eqb n 0) refl
     go false some = absurd (eqb-false n 0 some (rw some at done))
 
 module _ (rows : List ℕ) (state : State) where
-  judged-fit : (job : List ℕ) → Bytes job → (n i at least : ℕ) → outOfOrder least (entriesFrom job i n) ≡ false
-      → judgedFrom rows state at (entriesFrom job i n) .number ≡ 0 → Fit rows state least (entriesFrom job i n)
+  judged-admitted : (job : List ℕ) → Bytes job → (n i at least : ℕ) → outOfOrder least (entriesFrom job i n) ≡ false
+      → judgedFrom rows state at (entriesFrom job i n) .number ≡ 0 → Admitted rows state least (entriesFrom job i n)
   unfolding entriesFrom outOfOrder judgedFrom
-  judged-fit job bytes zero i at least order done = Fit.none
-  judged-fit job bytes (suc n) i at least order done =
+  judged-admitted job bytes zero i at least order done = Admitted.none
+  judged-admitted job bytes (suc n) i at least order done =
       let e : Entry = entryAt job i in
       let rising = neither (ltb 0xf3f (e .row) || ltb (e .row) least) (outOfOrder (e .row + 1) (entriesFrom job (suc i) n)) order in
       let inside = neither (ltb 0xf3f (e .row)) (ltb (e .row) least) (rising .0) in
       let judged = passed-entry (entryNumber rows state e) at (judgedFrom rows state (at + 1) (entriesFrom job (suc i) n)) done in
       let high : e .row ≤ 0xf3f = ltb-false 0xf3f (e .row) (inside .0) in
-      Fit.more {e = e} (ltb-false (e .row) least (inside .1)) (omega arith) (value-small job bytes i) (judged .0)
-      (judged-fit job bytes n (suc i) (at + 1) (e .row + 1) (rising .1) (judged .1))
+      Admitted.more {e = e} (ltb-false (e .row) least (inside .1)) (omega arith) (value-small job bytes i) (judged .0)
+      (judged-admitted job bytes n (suc i) (at + 1) (e .row + 1) (rising .1) (judged .1))
 
-  fit-judged : {least : ℕ} {es : List Entry} (at : ℕ) → Fit rows state least es → judgedFrom rows state at es .number ≡ 0
+  admitted-judged : {least : ℕ} {es : List Entry} (at : ℕ) → Admitted rows state least es → judgedFrom rows state at es .number ≡ 0
   unfolding judgedFrom
-  fit-judged at Fit.none = refl
-  fit-judged at (Fit.more {e} low high small done rest) =
-      rw (eq-eqb (entryNumber rows state e) 0 done) (fit-judged (at + 1) rest)
+  admitted-judged at Admitted.none = refl
+  admitted-judged at (Admitted.more {e} low high small done rest) =
+      rw (eq-eqb (entryNumber rows state e) 0 done) (admitted-judged (at + 1) rest)
 
 -- ---- what is carried out
 
@@ -95,12 +95,12 @@ pub record Accepted (rows : List ℕ) (state : State) (job : List ℕ) : Type 0 
   pub small : allInRange rows ≡ true
   pub formed : malformed job ≡ false
   pub order : outOfOrder 0 (entriesOf job) ≡ false
-  pub fit : Fit rows state 0 (entriesOf job)
+  pub admitted : Admitted rows state 0 (entriesOf job)
 
 pub accepted-verdict : {rows : List ℕ} {state : State} {job : List ℕ} → Accepted rows state job → verdictOf rows state job .number ≡ 0
 unfolding verdictOf
 accepted-verdict {rows} {state} a =
-    rw (eq-eqb (length rows) 4096 (a .whole), a .formed, a .order) (fit-judged rows state 0 (a .fit))
+    rw (eq-eqb (length rows) 4096 (a .whole), a .formed, a .order) (admitted-judged rows state 0 (a .admitted))
 
 pub accepted-on : (rows : List ℕ) (before : State) (key : Keyed) (job : List ℕ) → Bytes job → acceptedOn rows before key job
     → Accepted rows (ready rows before key) job
@@ -113,5 +113,5 @@ accepted-on rows before key job bytes accept =
       small = slice .1;
       formed = parts .1;
       order = parts .2;
-      fit = judged-fit rows state job bytes _ 0 0 0 (parts .2) (parts .3);
+      admitted = judged-admitted rows state job bytes _ 0 0 0 (parts .2) (parts .3);
     }

@@ -14,7 +14,7 @@ use Rattle.job.specs.declared.entries.Entry.{Entry}
 use Rattle.laws.specs.Votes.{EachIn}
 use Rattle.laws.specs.Cuts.{ready, CutOf, newlySet, Cuts, CutPower, PulsesAreNewBits}
 use Rattle.laws.proofs.Between.{each-self, each-through, each-length, each-set, each-over, each-held, new-through, new-none}
-use Rattle.laws.proofs.Rewriting.{Fit, with-keeps, all-keep, outside, all-pulses, again}
+use Rattle.laws.proofs.Rewriting.{Admitted, with-keeps, all-keep, outside, all-pulses, again}
 use Rattle.laws.proofs.Latches.{reset-done, ready-same}
 use Rattle.laws.proofs.Ranges.{range-under, range-written}
 use Rattle.laws.proofs.Acceptance.{ran, Accepted, accepted-verdict, accepted-on}
@@ -32,13 +32,13 @@ cut-between (CutOf.past {rows} {e} cut) =
     (each-through (with-keeps rows e) (rest .0), rest .1)
 cut-between (CutOf.atEnd {rows}) = (each-self rows, each-self rows)
 
-cuts-between : (state : State) {es : List Entry} {rows left : List ℕ} {spent : ℕ} → length rows ≡ 4096 → Fit rows state 0 es
+cuts-between : {rows left : List ℕ} {state : State} {es : List Entry} {spent : ℕ} → length rows ≡ 4096 → Admitted rows state 0 es
     → Cuts es rows left spent → EachIn rows left × EachIn left (allWritten rows es) × (spent ≡ newlySet rows left)
-cuts-between state {es} {rows} whole fit Cuts.none = (each-self rows, all-keep es rows, sym (new-none rows))
-cuts-between state {es} {rows} whole fit (Cuts.once {between} cut cuts) =
+cuts-between {rows} {es} whole admitted Cuts.none = (each-self rows, all-keep es rows, sym (new-none rows))
+cuts-between {rows} {es} whole admitted (Cuts.once {between} cut cuts) =
     let first = cut-between cut in
-    let next = again state es rows between whole fit (first .0) (first .1) in
-    let rest = cuts-between state (sym (each-length (first .0)) ∙ whole) (next .0) cuts in (
+    let next = again es whole admitted (first .0) (first .1) in
+    let rest = cuts-between (sym (each-length (first .0)) ∙ whole) (next .0) cuts in (
       each-through (first .0) (rest .0),
       rw (next .1) at (rest .1),
       ap (λ (spent : ℕ). newlySet rows between + spent) (rest .2) ∙ new-through (first .0) (rest .0),
@@ -51,20 +51,21 @@ module _ {rows left : List ℕ} {state : State} {job : List ℕ} (a : Accepted r
   accepted-again : Accepted left state job
   accepted-again = record {
     whole = sym (each-length over) ∙ a .whole;
-    small = range-under under (range-written state (entriesOf job) rows (a .fit) (a .small));
+    small = range-under under (range-written (entriesOf job) (a .admitted) (a .small));
     formed = a .formed;
     order = a .order;
-    fit = again state (entriesOf job) rows left (a .whole) (a .fit) over under .0;
+    admitted = again (entriesOf job) (a .whole) (a .admitted) over under .0;
   }
 
   same-rows : allWritten left (entriesOf job) ≡ allWritten rows (entriesOf job)
-  same-rows = again state (entriesOf job) rows left (a .whole) (a .fit) over under .1
+  same-rows = again (entriesOf job) (a .whole) (a .admitted) over under .1
 
+-- its pulses are the bits newly set
 pulses-new : {rows : List ℕ} {state : State} {job : List ℕ} → Accepted rows state job
     → runJob rows state job .outcome .answer .pulses ≡ newlySet rows (allWritten rows (entriesOf job))
 pulses-new {rows} {state} {job} a =
     ap (λ (l : Left). l .outcome .answer .pulses) (ran rows state job (accepted-verdict a))
-    ∙ all-pulses state (entriesOf job) rows (a .whole) (a .fit)
+    ∙ all-pulses (entriesOf job) (a .whole) (a .admitted)
 
 pub pulsesAreNewBits : PulsesAreNewBits
 pulsesAreNewBits rows before key job bytes accept = pulses-new (accepted-on rows before key job bytes accept)
@@ -72,13 +73,13 @@ pulsesAreNewBits rows before key job bytes accept = pulses-new (accepted-on rows
 pub cutPower : CutPower
 cutPower rows left before later key job spent bytes accept cuts =
     let first = accepted-on rows before key job bytes accept in
-    let between = cuts-between (ready rows before key) (first .whole) (first .fit) cuts in
+    let between = cuts-between (first .whole) (first .admitted) cuts in
     let next = accepted-again first (between .0) (between .1) in
     let same = same-rows first (between .0) (between .1) in
     let done : resetNumber left ≡ 0 = reset-done left (next .whole) (next .small) in
     let state : ready left later key ≡ ready rows before key =
     ready-same rows left before later key (accept .0) done
-    (λ k high. each-held k (between .0) (between .1) (outside (entriesOf job) k (first .fit) (λ low. high))) in
+    (λ k high. each-held k (between .0) (between .1) (outside (entriesOf job) k (first .admitted) (λ low. high))) in
     let run = ran left (ready rows before key) job (accepted-verdict next) in
     rw state (
       (done, ap (λ (l : Left). l .outcome .answer .number) run),

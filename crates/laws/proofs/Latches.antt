@@ -26,7 +26,7 @@ module _ (rows left : List ℕ) (same : (k : ℕ) → 0xf40 ≤ k → entry left
   decode-same first zero high = refl
   decode-same first (suc n) high = rw (decode-same first n high, same (first + n) (omega arith))
 
-  pub latched-same : latched left ≡ latched rows
+  latched-same : latched left ≡ latched rows
   unfolding latched
   latched-same =
       let low : (page : ℕ) → entry left (lowLockRow page) ≡ entry rows (lowLockRow page) = λ page. same (lowLockRow page) (omega arith) in

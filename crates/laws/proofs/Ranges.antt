@@ -16,7 +16,7 @@ use Rattle.job.specs.declared.entries.Entry.{Entry}
 use Rattle.laws.specs.Votes.{EachIn}
 use Rattle.laws.proofs.Between.{in-le}
 use Rattle.laws.proofs.Entries.{entry-small}
-use Rattle.laws.proofs.Rewriting.{Fit, judged-done, fit-next}
+use Rattle.laws.proofs.Rewriting.{Admitted, judged-done, admitted-next}
 
 range-set : (rows : List ℕ) (k new : ℕ) → allInRange rows ≡ true → new ≤ 16777215 → allInRange (set rows k new) ≡ true
 unfolding allInRange
@@ -34,12 +34,12 @@ range-under (EachIn.more {old} {new} {news} one rest) small =
     let low : old ≤ 16777215 = omega (arith, in-le old new one, leb-true new 16777215 (parts .0)) in
     rw (le-leb old 16777215 low) (range-under rest (parts .1))
 
-pub range-written : (state : State) (es : List Entry) (rows : List ℕ) {least : ℕ} → Fit rows state least es → allInRange rows ≡ true
+pub range-written : {rows : List ℕ} {state : State} {least : ℕ} (es : List Entry) → Admitted rows state least es → allInRange rows ≡ true
     → allInRange (allWritten rows es) ≡ true
 unfolding allWritten
-range-written state [] rows Fit.none small = small
-range-written state (e ∷ others) rows (Fit.more low high value done rest) small =
+range-written [] Admitted.none small = small
+range-written {rows} {state} (e ∷ others) (Admitted.more low high value done rest) small =
     let new : ℕ = writtenOver rows e .row in
     let old-low : entry rows (e .row) ≤ 16777215 = judged-done rows state e done .1 in
     let new-low : new < 2 ^ 24 = entry-small (entry rows (e .row)) e (omega arith) value in
-    range-written state others (withEntry rows e) (fit-next (e .row) new rest) (range-set rows (e .row) new small (omega arith))
+    range-written others (admitted-next (e .row) new rest) (range-set rows (e .row) new small (omega arith))

@@ -28,7 +28,7 @@ use Rattle.laws.specs.Cuts.{ready, CutOf, newlySet, RehearsalCuts}
 use Rattle.laws.proofs.Writes.{shared, in-shared, all-set}
 use Rattle.laws.proofs.Between.{new-through, new-none, new-set}
 use Rattle.laws.proofs.Entries.{entry-keeps, entry-pulses}
-use Rattle.laws.proofs.Rewriting.{Fit, fit-next, with-keeps}
+use Rattle.laws.proofs.Rewriting.{Admitted, admitted-next, with-keeps}
 use Rattle.laws.proofs.Acceptance.{carried, accepted-verdict, accepted-on}
 use Rattle.laws.proofs.CutPower.{cut-between}
 
@@ -74,14 +74,14 @@ module _ (n old row : ℕ) (enough : n ≤ pulses old row) where
 abbrev IsCut : List ℕ → List Entry → Progress → Type 0
 IsCut rows es done = CutOf rows es (done .rows) × (done .pulses ≡ newlySet rows (done .rows))
 
-rehearsed-cut : (state : State) (es : List Entry) (rows : List ℕ) (limit : ℕ) {least : ℕ} → length rows ≡ 4096 → Fit rows state least es
+rehearsed-cut : {rows : List ℕ} {state : State} {least : ℕ} (limit : ℕ) (es : List Entry) → length rows ≡ 4096 → Admitted rows state least es
     → IsCut rows es (rehearsed rows limit es)
 unfolding rehearsed
-rehearsed-cut state [] rows limit whole Fit.none = (CutOf.atEnd, sym (new-none rows))
-rehearsed-cut state (e ∷ others) rows limit whole (Fit.more low high small done rest) =
+rehearsed-cut {rows} limit [] whole Admitted.none = (CutOf.atEnd, sym (new-none rows))
+rehearsed-cut {rows} limit (e ∷ others) whole (Admitted.more low high small done rest) =
     go (leb (writtenOver rows e .pulses) limit) refl
-    (rehearsed-cut state others (withEntry rows e) (limit - writtenOver rows e .pulses)
-    (length-set rows (e .row) (writtenOver rows e .row) ∙ whole) (fit-next (e .row) (writtenOver rows e .row) rest))
+    (rehearsed-cut (limit - writtenOver rows e .pulses) others
+    (length-set rows (e .row) (writtenOver rows e .row) ∙ whole) (admitted-next (e .row) (writtenOver rows e .row) rest))
   where
     old : ℕ
     old = entry rows (e .row)
@@ -116,4 +116,4 @@ rehearsalCuts rows before key job limit bytes accept =
     let state : State = ready rows before key in
     let a = accepted-on rows before key job bytes accept in
     rw (carried (verdictOf rows state job) rows state (rehearsed rows limit (entriesOf job)) (accepted-verdict a))
-    (rehearsed-cut state (entriesOf job) rows limit (a .whole) (a .fit))
+    (rehearsed-cut limit (entriesOf job) (a .whole) (a .admitted))

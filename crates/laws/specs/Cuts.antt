@@ -27,7 +27,7 @@ ready rows before (keyEntered key) = enterKey (reset rows before .state) 0 key .
 abbrev pub Bytes : List ℕ → Type 0
 Bytes job = (at : ℕ) → getD job at 0 < 256
 
--- the number of a job run on a chip just reset
+-- the reset is done, and the job is then accepted
 abbrev pub acceptedOn : List ℕ → State → Keyed → List ℕ → Type 0
 acceptedOn rows before key job = (resetNumber rows ≡ 0) × (runJob rows (ready rows before key) job .outcome .answer .number ≡ 0)
 
