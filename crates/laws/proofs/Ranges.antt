@@ -11,7 +11,7 @@ use lib.ListN.{set}
 use Rattle.chip.specs.Latching.{allInRange}
 use Rattle.chip.specs.Lists.{entry}
 use Rattle.chip.specs.declared.state.State.{State}
-use Rattle.job.specs.Burning.{writtenOver, withEntry, allWritten}
+use Rattle.job.specs.Burning.{writtenOver, allWritten}
 use Rattle.job.specs.declared.entries.Entry.{Entry}
 use Rattle.laws.specs.Votes.{EachIn}
 use Rattle.laws.proofs.Between.{in-le}
