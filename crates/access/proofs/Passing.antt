@@ -18,7 +18,7 @@ use Rattle.access.specs.Reads.{readVoteNumber}
 
 module _ (rows : List ℕ) where
   -- the slice has 4,096 entries
-  whole : not (eqb (length rows) 4096) ≡ false → length rows ≡ 4096
+  pub whole : not (eqb (length rows) 4096) ≡ false → length rows ≡ 4096
   whole e = eqb-true (length rows) 4096 (not-false (eqb (length rows) 4096) e)
 
   pub row-passed : (state : State) (caller row : ℕ) (coded tooLarge may : Bool) → rowNumber rows state caller row coded tooLarge may ≡ 0

@@ -9,3 +9,11 @@ pub mod Refusals
 pub mod Burning
 pub mod Locking
 pub mod CallWrites
+pub mod Between
+pub mod Entries
+pub mod Rewriting
+pub mod Latches
+pub mod Ranges
+pub mod Acceptance
+pub mod CutPower
+pub mod RehearsalCut

@@ -39,7 +39,7 @@ inThrough a b c ab bc = in-shared a c (cc (shared a b ab, shared b c bc, and-ass
 
 -- ---- what an ECC write leaves
 
-data Ecc (old value : ℕ) : Written → Type 0 where
+pub data Ecc (old value : ℕ) : Written → Type 0 where
   as-plain : In old (plain value) → Ecc old value (burnt old (plain value))
   as-inverted : (In old (plain value) → ⊥) → In old (inverted value) → Ecc old value (burnt old (inverted value))
   as-it-was : (In old (plain value) → ⊥) → (In old (inverted value) → ⊥) → Ecc old value (kept old 9)
@@ -47,7 +47,7 @@ data Ecc (old value : ℕ) : Written → Type 0 where
 lacks : (old row : ℕ) → fits old row ≡ false → In old row → ⊥
 lacks old row e holds = eqb-false (bitAnd old row) old e (shared old row holds)
 
-written : (old value : ℕ) → Ecc old value (eccWritten old value)
+pub written : (old value : ℕ) → Ecc old value (eccWritten old value)
 written old value = go (fits old (plain value)) refl (fits old (inverted value)) refl
   where
     go : (p : Bool) → fits old (plain value) ≡ p → (i : Bool) → fits old (inverted value) ≡ i → Ecc old value (eccWritten old value)
@@ -110,7 +110,7 @@ sameEcc old between value done over = go (written old value) done
 -- ---- one bit set beforehand
 
 -- what flips a row has every bit
-all-set : (place : ℕ) → place < 24 → bitAt place 0xffffff ≡ 1
+pub all-set : (place : ℕ) → place < 24 → bitAt place 0xffffff ≡ 1
 all-set place h = eqb→eq (bitAt place 0xffffff) 1 (at-below 24 (λ k. eqb (bitAt k 0xffffff) 1) tt place h)
 
 in-at : (place row : ℕ) → bitAt place row ≡ 1 → In (2 ^ place) row

@@ -1,14 +1,13 @@
 -- Demand 3: power cut while a job runs (document 01, "Jobs").
 use Prim.Native.Nat.{ℕ, _+_, _<_}
-use mathlib.Core.Bool.{true}
 use mathlib.Core.List.{List, [], _∷_}
 use mathlib.Core.Path.{_≡_}
-use lib.ListN.{length, getD, set}
+use lib.ListN.{getD, set}
 use Rattle.row.specs.Writing.{pulses}
 use Rattle.chip.specs.Calls.{resetNumber, reset, enterKey}
 use Rattle.chip.specs.Lists.{entry}
 use Rattle.chip.specs.declared.state.State.{State}
-use Rattle.job.specs.Burning.{writtenOver, withEntry, allWritten, allPulses, rehearsed}
+use Rattle.job.specs.Burning.{writtenOver, withEntry, allWritten}
 use Rattle.job.specs.Entries.{entriesOf}
 use Rattle.job.specs.Jobs.{runJob, rehearse}
 use Rattle.job.specs.declared.entries.Entry.{Entry}
@@ -28,7 +27,7 @@ ready rows before (keyEntered key) = enterKey (reset rows before .state) 0 key .
 abbrev pub Bytes : List ℕ → Type 0
 Bytes job = (at : ℕ) → getD job at 0 < 256
 
--- the number of a job run on a chip just reset
+-- the reset is done, and the job is then accepted
 abbrev pub acceptedOn : List ℕ → State → Keyed → List ℕ → Type 0
 acceptedOn rows before key job = (resetNumber rows ≡ 0) × (runJob rows (ready rows before key) job .outcome .answer .number ≡ 0)
 

@@ -29,6 +29,13 @@ ones-sum (suc d) a b c h =
     (λ k l. ap₂ _+_ (bit-half k a) (bit-half k b) ∙ h (suc k) (suc-le-suc l) ∙ sym (bit-half k c)) in
     omega arith
 
+pub ones-same : (d a b : ℕ) → ((k : ℕ) → k < d → bitAt k a ≡ bitAt k b) → onesIn d a ≡ onesIn d b
+unfolding onesIn
+ones-same zero a b h = refl
+ones-same (suc d) a b h =
+    ap₂ _+_ (sym (bit-lowest a) ∙ h 0 (suc-le-suc zero-le) ∙ bit-lowest b)
+    (ones-same d (a / 2) (b / 2) (λ k l. bit-half k a ∙ h (suc k) (suc-le-suc l) ∙ sym (bit-half k b)))
+
 pub ones-at-most : (d a b c : ℕ) → ((k : ℕ) → k < d → bitAt k c ≤ bitAt k a + bitAt k b) → onesIn d c ≤ onesIn d a + onesIn d b
 unfolding onesIn
 ones-at-most zero a b c h = zero-le
