@@ -1,0 +1,19 @@
+-- `otp::calls::otp_reset` meets its contract: by those of `chip::resetting::reset` and `flat_outcome`.
+-- Assumes nothing.
+use borrow.Author.Needs.{needs}
+use mathlib.Core.Path.{ap, _∙_}
+use Rattle.otp.specs.Flat.{flatOutcome}
+use Rattle.otp.proofs.calls.otp_reset.Statement.{statement}
+use Rattle.otp.proofs.calls.otp_reset.Tie as tie
+
+reset-requires : tie.Need-reset-requires
+reset-requires c κs = search needs
+
+flat-outcome-requires : tie.Need-flat-outcome-requires
+flat-outcome-requires c κs = search needs
+
+returns : tie.Need-returns
+returns c = c .flat-outcome .ensures ∙ ap flatOutcome (c .before .reset .ensures)
+
+pub otp-reset-spec : {M : Type 1} → statement M
+otp-reset-spec = tie.close (tie.spec reset-requires flat-outcome-requires returns)

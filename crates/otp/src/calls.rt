@@ -1,0 +1,153 @@
+// The eleven calls that libotp.a exports. Each is the call of the crate below, and what C takes of its answer.
+// Each contract cites the definition of that call, so all that is proved of the call holds here too.
+ghost use mathlib.Core.Path.{_≡_};
+ghost use Rattle.chip.specs.Calls as chip;
+ghost use Rattle.access.specs.Reads as reads;
+ghost use Rattle.access.specs.Writes as writes;
+ghost use Rattle.job.specs.Jobs as jobs;
+ghost use Rattle.otp.specs.Flat.{flatAnswer, flatOutcome};
+use crate::flat::FlatAnswer;
+use crate::flat::FlatOutcome;
+use crate::flat::flat_answer;
+use crate::flat::flat_outcome;
+use access::reads::read_ecc;
+use access::reads::read_raw;
+use access::votes::read_vote;
+use access::writes::write_ecc;
+use access::writes::write_raw;
+use chip::calls::advance;
+use chip::calls::enter_key;
+use chip::calls::show;
+use chip::resetting::reset;
+use chip::state::State;
+use job::jobs::rehearse;
+use job::jobs::run_job;
+
+// Latches what the rows hold.
+#[no_mangle]
+pub extern "C" fn otp_reset(rows: &[u32], state: State) -> FlatOutcome
+    ensures { λ r. ⌜ r ≡ flatOutcome (chip.reset (now (rows .entry)) state) ⌝ }
+{
+    flat_outcome(reset(rows, state))
+}
+
+// Reads a row as it is.
+#[no_mangle]
+pub extern "C" fn otp_read_raw(rows: &[u32], state: State, caller: u32, row: u32) -> FlatAnswer
+    ensures { λ r. ⌜ r ≡ flatAnswer (reads.readRaw (now (rows .entry)) state caller row) ⌝ }
+{
+    flat_answer(read_raw(rows, state, caller, row))
+}
+
+// Reads a row with ECC.
+#[no_mangle]
+pub extern "C" fn otp_read_ecc(rows: &[u32], state: State, caller: u32, row: u32) -> FlatAnswer
+    ensures { λ r. ⌜ r ≡ flatAnswer (reads.readEcc (now (rows .entry)) state caller row) ⌝ }
+{
+    flat_answer(read_ecc(rows, state, caller, row))
+}
+
+// Reads the vote of three or eight rows.
+#[no_mangle]
+pub extern "C" fn otp_read_vote(
+    rows: &[u32],
+    state: State,
+    caller: u32,
+    row: u32,
+    count: u32,
+) -> FlatAnswer
+    ensures { λ r. ⌜ r ≡ flatAnswer (reads.readVote (now (rows .entry)) state caller row count) ⌝ }
+{
+    flat_answer(read_vote(rows, state, caller, row, count))
+}
+
+// Burns the bits of a value into a row.
+#[no_mangle]
+pub extern "C" fn otp_write_raw(
+    rows: &mut [u32],
+    state: State,
+    caller: u32,
+    row: u32,
+    value: u32,
+) -> FlatOutcome
+    ensures { λ r. ⌜
+        (r ≡ flatOutcome (writes.writeRaw (now (rows .entry)) state caller row value .outcome))
+        × (now (rows .exit) ≡ writes.writeRaw (now (rows .entry)) state caller row value .rows)
+        ⌝ }
+{
+    flat_outcome(write_raw(rows, state, caller, row, value))
+}
+
+// Burns a value with its code into a row.
+#[no_mangle]
+pub extern "C" fn otp_write_ecc(
+    rows: &mut [u32],
+    state: State,
+    caller: u32,
+    row: u32,
+    value: u32,
+) -> FlatOutcome
+    ensures { λ r. ⌜
+        (r ≡ flatOutcome (writes.writeEcc (now (rows .entry)) state caller row value .outcome))
+        × (now (rows .exit) ≡ writes.writeEcc (now (rows .entry)) state caller row value .rows)
+        ⌝ }
+{
+    flat_outcome(write_ecc(rows, state, caller, row, value))
+}
+
+// Advances a lock.
+#[no_mangle]
+pub extern "C" fn otp_advance(
+    state: State,
+    caller: u32,
+    domain: u32,
+    page: u32,
+    level: u32,
+) -> FlatOutcome
+    ensures { λ r. ⌜ r ≡ flatOutcome (chip.advance state caller domain page level) ⌝ }
+{
+    flat_outcome(advance(state, caller, domain, page, level))
+}
+
+// Shows a lock.
+#[no_mangle]
+pub extern "C" fn otp_show(state: State, caller: u32, domain: u32, page: u32) -> FlatAnswer
+    ensures { λ r. ⌜ r ≡ flatAnswer (chip.showLock state caller domain page) ⌝ }
+{
+    flat_answer(show(state, caller, domain, page))
+}
+
+// Enters a key.
+#[no_mangle]
+pub extern "C" fn otp_enter_key(state: State, caller: u32, key: &[u8]) -> FlatOutcome
+    ensures { λ r. ⌜ r ≡ flatOutcome (chip.enterKey state caller (now (key .entry))) ⌝ }
+{
+    flat_outcome(enter_key(state, caller, key))
+}
+
+// Judges a job and burns it.
+#[no_mangle]
+pub extern "C" fn otp_run_job(rows: &mut [u32], state: State, job: &[u8]) -> FlatOutcome
+    ensures { λ r. ⌜
+        (r ≡ flatOutcome (jobs.runJob (now (rows .entry)) state (now (job .entry)) .outcome))
+        × (now (rows .exit) ≡ jobs.runJob (now (rows .entry)) state (now (job .entry)) .rows)
+        ⌝ }
+{
+    flat_outcome(run_job(rows, state, job))
+}
+
+// Judges a job, and burns it until the pulses of the limit are spent.
+#[no_mangle]
+pub extern "C" fn otp_rehearse(
+    rows: &mut [u32],
+    state: State,
+    job: &[u8],
+    limit: u32,
+) -> FlatOutcome
+    ensures { λ r. ⌜
+        (r ≡ flatOutcome (jobs.rehearse (now (rows .entry)) state (now (job .entry)) limit .outcome))
+        × (now (rows .exit) ≡ jobs.rehearse (now (rows .entry)) state (now (job .entry)) limit .rows)
+        ⌝ }
+{
+    flat_outcome(rehearse(rows, state, job, limit))
+}

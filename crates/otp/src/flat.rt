@@ -1,0 +1,80 @@
+// The answer and the outcome as C takes them. An enum cannot cross to C, so the condition is two numbers here.
+ghost use mathlib.Core.Path.{_≡_};
+ghost use Rattle.otp.specs.Flat as spec;
+use chip::state::Outcome;
+use chip::state::State;
+use row::answer::Answer;
+use row::answer::Condition;
+
+// `otp_answer` of the header.
+#[repr(C)]
+pub struct FlatAnswer {
+    // 0 is done, any other is a refusal
+    pub number: u32,
+    // what a read or a vote found, or the level that a show shows
+    pub value: u32,
+    // 0 clean, 1 repaired
+    pub condition: u32,
+    // the repaired bit, 0 where clean
+    pub bit: u32,
+    // of a job: the refused entry, or how many leading entries stand
+    pub place: u32,
+    // the bits newly set
+    pub pulses: u32,
+}
+
+// `otp_outcome` of the header.
+#[repr(C)]
+pub struct FlatOutcome {
+    // what the call answers
+    pub answer: FlatAnswer,
+    // the state after the call
+    pub state: State,
+}
+
+// 0 for clean, 1 for repaired.
+pub fn condition_of(condition: Condition) -> u32
+    ensures { λ r. ⌜ r ≡ spec.conditionOf condition ⌝ }
+{
+    match condition {
+        Condition::Clean => 0,
+        Condition::Repaired(_) => 1,
+    }
+}
+
+// The repaired bit, 0 where clean.
+pub fn bit_of(condition: Condition) -> u32
+    ensures { λ r. ⌜ r ≡ spec.bitOf condition ⌝ }
+{
+    match condition {
+        Condition::Clean => 0,
+        Condition::Repaired(bit) => bit,
+    }
+}
+
+// An answer as C takes it.
+pub fn flat_answer(answer: Answer) -> FlatAnswer
+    ensures { λ r. ⌜ r ≡ spec.flatAnswer answer ⌝ }
+{
+    let condition = answer.condition;
+    FlatAnswer {
+        number: answer.number,
+        value: answer.value,
+        condition: condition_of(condition),
+        bit: bit_of(condition),
+        place: answer.place,
+        pulses: answer.pulses,
+    }
+}
+
+// An outcome as C takes it.
+pub fn flat_outcome(outcome: Outcome) -> FlatOutcome
+    ensures { λ r. ⌜ r ≡ spec.flatOutcome outcome ⌝ }
+{
+    let answer = outcome.answer;
+    let state = outcome.state;
+    FlatOutcome {
+        answer: flat_answer(answer),
+        state,
+    }
+}

@@ -1,0 +1,159 @@
+/*
+ * desk.c: a first program over libotp.a, for the author of a desk's firmware.
+ *
+ * On an image of a blank chip it keeps a screen's width in a row, reads it with a worn bit, and locks its page. On a second blank chip
+ * it rehearses a job up to a power cut, and then runs it. It prints what happens, and exits 1 where that is not what document 01 says.
+ *
+ *     rt staticlib otp
+ *     cc -std=c11 -Iinclude examples/desk.c target/staticlib/libotp.a -o target/desk
+ */
+#include "otp.h"
+
+#include <stdio.h>
+#include <string.h>
+
+/* The layout that libotp.a goes by. A compiler that lays the structs out otherwise stops here. */
+#define SIZE(type, bytes) _Static_assert(sizeof(type) == (bytes), "size of " #type)
+#define AT(type, field, byte) _Static_assert(offsetof(type, field) == (byte), "place of " #field " in " #type)
+
+SIZE(otp_answer, 24);
+AT(otp_answer, number, 0);
+AT(otp_answer, value, 4);
+AT(otp_answer, condition, 8);
+AT(otp_answer, bit, 12);
+AT(otp_answer, place, 16);
+AT(otp_answer, pulses, 20);
+
+SIZE(otp_key, 18);
+AT(otp_key, words, 0);
+AT(otp_key, valid, 16);
+AT(otp_key, whole, 17);
+
+SIZE(otp_state, 444);
+AT(otp_state, secure, 0);
+AT(otp_state, nonsecure, 64);
+AT(otp_state, writekey, 128);
+AT(otp_state, readkey, 192);
+AT(otp_state, nokey, 256);
+AT(otp_state, keys, 320);
+AT(otp_state, entered, 428);
+
+SIZE(otp_outcome, 468);
+AT(otp_outcome, answer, 0);
+AT(otp_outcome, state, 24);
+
+enum { ROWS = 4096, SECURE = 0, NONSECURE = 1, ROW = 0x0c0, PAGE = ROW / 64, WIDTH = 320 };
+
+/* The image of a chip. A desk would fill it from the chip itself. */
+static uint32_t rows[ROWS];
+
+/* How many things were not as they must be. */
+static int wrong;
+
+static void expect(const char *what, uint32_t is, uint32_t must)
+{
+    if (is != must) {
+        printf("WRONG: %s is 0x%06x and must be 0x%06x\n", what, (unsigned)is, (unsigned)must);
+        wrong++;
+    }
+}
+
+/* A blank chip, reset. A state of all zeros is the one to start from. */
+static otp_state blank_chip(void)
+{
+    memset(rows, 0, sizeof rows);
+    otp_state start = {0};
+    otp_outcome out = otp_reset(rows, ROWS, start);
+    printf("reset of a blank chip: number %u\n", (unsigned)out.answer.number);
+    expect("the number of the reset", out.answer.number, 0);
+    return out.state;
+}
+
+/* A write answers with the pulses that it spent, and with the state to go on with. */
+static otp_state write_width(otp_state state)
+{
+    otp_outcome out = otp_write_ecc(rows, ROWS, state, SECURE, ROW, WIDTH);
+    printf("width %d written to row 0x%03x: number %u, %u pulses, the row is 0x%06x\n", WIDTH, ROW,
+           (unsigned)out.answer.number, (unsigned)out.answer.pulses, (unsigned)rows[ROW]);
+    expect("the number of the write", out.answer.number, 0);
+    return out.state;
+}
+
+/* The desk reads as Non-secure. Where a bit had to be repaired, the answer says which. */
+static void read_width(otp_state state, uint32_t condition, uint32_t bit)
+{
+    otp_answer got = otp_read_ecc(rows, ROWS, state, NONSECURE, ROW);
+    printf("width read from 0x%06x: number %u, value %u, ", (unsigned)rows[ROW], (unsigned)got.number, (unsigned)got.value);
+    if (got.condition == 0)
+        printf("clean\n");
+    else
+        printf("repaired bit %u\n", (unsigned)got.bit);
+    expect("the number of the read", got.number, 0);
+    expect("the width", got.value, WIDTH);
+    expect("the condition", got.condition, condition);
+    expect("the repaired bit", got.bit, bit);
+}
+
+/* Locks the page against writing until the next reset. */
+static otp_state lock_page(otp_state state)
+{
+    otp_outcome out = otp_advance(state, SECURE, SECURE, PAGE, 1);
+    otp_answer level = otp_show(out.state, NONSECURE, SECURE, PAGE);
+    printf("page %d locked: number %u, it shows level %u\n", PAGE, (unsigned)out.answer.number, (unsigned)level.value);
+    expect("the number of the advance", out.answer.number, 0);
+    expect("the level of the page", level.value, 1);
+    return out.state;
+}
+
+/* A refusal has a number of its own, and changes no row. */
+static void refused_write(otp_state state)
+{
+    uint32_t before = rows[ROW];
+    otp_outcome out = otp_write_ecc(rows, ROWS, state, SECURE, ROW, WIDTH);
+    printf("width written again: refused with number %u, the row is 0x%06x still\n", (unsigned)out.answer.number, (unsigned)rows[ROW]);
+    expect("the number of the refused write", out.answer.number, 7);
+    expect("the row after the refusal", rows[ROW], before);
+}
+
+/* One width, written, read, read with a worn bit, and locked. */
+static void keep_a_width(void)
+{
+    otp_state state = write_width(blank_chip());
+    read_width(state, 0, 0);
+    rows[ROW] &= ~(UINT32_C(1) << 8);
+    printf("bit 8 wears away\n");
+    read_width(state, 1, 8);
+    refused_write(lock_page(state));
+}
+
+/* A job of one entry: row 0x0c0, ECC, value 1. */
+static const uint8_t job[] = {0x4f, 0x54, 0x4a, 0x01, 0x00, 0x01, 0x00, 0xc0, 0x00, 0x00, 0x01, 0x00, 0x00};
+
+/* What a job or a rehearsal came to, and what it must have come to. */
+static void job_came_to(const char *what, otp_answer is, uint32_t place, uint32_t pulses, uint32_t row)
+{
+    printf("%s: number %u, place %u, %u pulses, the row is 0x%06x\n", what, (unsigned)is.number, (unsigned)is.place,
+           (unsigned)is.pulses, (unsigned)rows[ROW]);
+    expect("the number of the job", is.number, 0);
+    expect("the place", is.place, place);
+    expect("the pulses", is.pulses, pulses);
+    expect("the row", rows[ROW], row);
+}
+
+/* The power goes after two pulses. After a reset the same job finishes what was begun. */
+static void run_a_job(void)
+{
+    otp_state state = blank_chip();
+    otp_outcome cut = otp_rehearse(rows, ROWS, state, job, sizeof job, 2);
+    job_came_to("job rehearsed to 2 pulses", cut.answer, 0, 2, 0x010001);
+    otp_outcome again = otp_reset(rows, ROWS, cut.state);
+    otp_outcome whole = otp_run_job(rows, ROWS, again.state, job, sizeof job);
+    job_came_to("reset, and the job run", whole.answer, 1, 2, 0x230001);
+}
+
+int main(void)
+{
+    keep_a_width();
+    run_a_job();
+    return wrong == 0 ? 0 : 1;
+}
