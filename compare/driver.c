@@ -1,0 +1,208 @@
+/*
+ * driver.c: libotp.a behind a pipe, for the comparison with the model.
+ *
+ * Reads requests from standard input and answers each on standard output, until the input ends. It keeps an image of the rows
+ * between requests, blank at the start, so that a request holds only the entries that are to differ. All numbers are 32 bits, low
+ * byte first; structs are as they lie in memory.
+ *
+ *     request     call, rows_len, count of entries, count of bytes, four arguments, the state (444 bytes), the entries (place,
+ *                 value), then the bytes of a key or a job
+ *     reply       count of entries, the answer (24 bytes), the state if the call answers one, then the entries (place, value) that
+ *                 the call changed
+ *
+ * The whole image is looked at after each call, so a change to an entry that the call was not lent is told too. A request that is
+ * none of these ends the program with one line and 1.
+ *
+ *     rt staticlib otp
+ *     cc -std=c11 -O2 -Iinclude compare/driver.c target/staticlib/libotp.a -o target/driver
+ */
+#include "otp.h"
+
+#include <stdio.h>
+#include <stdlib.h>
+#include <string.h>
+
+enum { ENTRIES = 8192, MOST_BYTES = 65536, PIPE = 1 << 16 };
+
+/* The calls, in the order of the header. */
+enum { RESET, READ_RAW, READ_ECC, READ_VOTE, WRITE_RAW, WRITE_ECC, ADVANCE, SHOW, ENTER_KEY, RUN_JOB, REHEARSE };
+
+typedef struct {
+    uint32_t call;
+    uint32_t rows_len;
+    uint32_t entries;
+    uint32_t bytes;
+    uint32_t arguments[4];
+    otp_state state;
+} request;
+
+typedef struct {
+    uint32_t place;
+    uint32_t value;
+} entry;
+
+/* What goes through the pipe has no gaps. */
+_Static_assert(sizeof(request) == 32 + 444, "size of request");
+_Static_assert(sizeof(entry) == 8, "size of entry");
+_Static_assert(sizeof(otp_answer) == 24, "size of otp_answer");
+_Static_assert(sizeof(otp_state) == 444, "size of otp_state");
+_Static_assert(offsetof(otp_state, keys) == 320 && sizeof(otp_key) == 18, "place and size of the keys");
+_Static_assert(offsetof(otp_state, entered) == 428, "place of the entered key");
+
+/* The image, and the same before the call. Between calls the two are equal. */
+static uint32_t image[ENTRIES];
+static uint32_t before[ENTRIES];
+
+static entry entries[ENTRIES];
+static uint8_t bytes[MOST_BYTES];
+
+static void stop(const char *why)
+{
+    fprintf(stderr, "driver: %s\n", why);
+    exit(1);
+}
+
+static void take(void *place, size_t size, size_t count)
+{
+    if (fread(place, size, count, stdin) != count) {
+        stop("the input ends inside a request");
+    }
+}
+
+static void give(const void *place, size_t size, size_t count)
+{
+    if (fwrite(place, size, count, stdout) != count) {
+        stop("a reply cannot be written");
+    }
+}
+
+/* Takes the next request with its entries and bytes; false at the end of the input. */
+static bool next(request *asked)
+{
+    if (fread(asked, 1, 1, stdin) != 1) {
+        return false;
+    }
+    take((char *)asked + 1, sizeof *asked - 1, 1);
+    if (asked->rows_len > ENTRIES || asked->entries > ENTRIES || asked->bytes > MOST_BYTES) {
+        stop("a request is too large");
+    }
+    take(entries, sizeof *entries, asked->entries);
+    take(bytes, 1, asked->bytes);
+    return true;
+}
+
+/* Lays the request's entries into the image. */
+static void lay(uint32_t count)
+{
+    for (uint32_t i = 0; i < count; i++) {
+        if (entries[i].place >= ENTRIES) {
+            stop("an entry lies outside the image");
+        }
+        image[entries[i].place] = entries[i].value;
+        before[entries[i].place] = entries[i].value;
+    }
+}
+
+/* Notes every entry that the call changed, and gives how many. */
+static uint32_t changed(void)
+{
+    uint32_t count = 0;
+
+    if (memcmp(image, before, sizeof image) == 0) {
+        return 0;
+    }
+    for (uint32_t place = 0; place < ENTRIES; place++) {
+        if (image[place] != before[place]) {
+            entries[count].place = place;
+            entries[count].value = image[place];
+            before[place] = image[place];
+            count++;
+        }
+    }
+    return count;
+}
+
+/* Whether a call answers no state. */
+static bool only_answers(uint32_t call)
+{
+    return call == READ_RAW || call == READ_ECC || call == READ_VOTE || call == SHOW;
+}
+
+/* Makes a call that only answers. */
+static otp_answer answer(const request *r)
+{
+    const uint32_t *a = r->arguments;
+
+    switch (r->call) {
+    case READ_RAW:
+        return otp_read_raw(image, r->rows_len, r->state, a[0], a[1]);
+    case READ_ECC:
+        return otp_read_ecc(image, r->rows_len, r->state, a[0], a[1]);
+    case READ_VOTE:
+        return otp_read_vote(image, r->rows_len, r->state, a[0], a[1], a[2]);
+    default:
+        return otp_show(r->state, a[0], a[1], a[2]);
+    }
+}
+
+/* Makes a call that answers a state too. */
+static otp_outcome outcome(const request *r)
+{
+    const uint32_t *a = r->arguments;
+
+    switch (r->call) {
+    case RESET:
+        return otp_reset(image, r->rows_len, r->state);
+    case WRITE_RAW:
+        return otp_write_raw(image, r->rows_len, r->state, a[0], a[1], a[2]);
+    case WRITE_ECC:
+        return otp_write_ecc(image, r->rows_len, r->state, a[0], a[1], a[2]);
+    case ADVANCE:
+        return otp_advance(r->state, a[0], a[1], a[2], a[3]);
+    case ENTER_KEY:
+        return otp_enter_key(r->state, a[0], bytes, r->bytes);
+    case RUN_JOB:
+        return otp_run_job(image, r->rows_len, r->state, bytes, r->bytes);
+    default:
+        return otp_rehearse(image, r->rows_len, r->state, bytes, r->bytes, a[0]);
+    }
+}
+
+/* Makes the call and writes the reply. */
+static void reply(const request *r)
+{
+    otp_outcome made;
+    size_t size = sizeof made;
+    uint32_t count;
+
+    if (only_answers(r->call)) {
+        made.answer = answer(r);
+        size = sizeof made.answer;
+    } else {
+        made = outcome(r);
+    }
+    count = changed();
+    give(&count, sizeof count, 1);
+    give(&made, size, 1);
+    give(entries, sizeof *entries, count);
+    if (fflush(stdout) != 0) {
+        stop("a reply cannot be written");
+    }
+}
+
+int main(void)
+{
+    static char in[PIPE], out[PIPE];
+    static request asked;
+
+    setvbuf(stdin, in, _IOFBF, sizeof in);
+    setvbuf(stdout, out, _IOFBF, sizeof out);
+    while (next(&asked)) {
+        if (asked.call > REHEARSE) {
+            stop("there is no such call");
+        }
+        lay(asked.entries);
+        reply(&asked);
+    }
+    return 0;
+}

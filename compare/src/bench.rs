@@ -1,0 +1,145 @@
+//! Makes each call on both sides and compares everything that comes back: the answer, the state, every row.
+
+use crate::call::Call;
+use crate::locks::owner;
+use crate::shape::{Answer, Chip, Outcome, State, ROWS};
+use crate::tally::Tally;
+
+/// The rows lie in a longer buffer, so that a slice can be too long and a stray write is seen.
+pub const BUFFER: usize = 4352;
+
+/// The first difference, as one line.
+#[derive(Debug)]
+pub struct Difference(pub String);
+
+pub struct Bench<'a> {
+    library: &'a dyn Chip,
+    model: &'a dyn Chip,
+    theirs: Vec<u32>,
+    ours: Vec<u32>,
+    pub state: State,
+    pub tally: Tally,
+}
+
+impl<'a> Bench<'a> {
+    pub fn new(library: &'a dyn Chip, model: &'a dyn Chip) -> Bench<'a> {
+        Bench {
+            library,
+            model,
+            theirs: vec![0; BUFFER],
+            ours: vec![0; BUFFER],
+            state: State::blank(),
+            tally: Tally::default(),
+        }
+    }
+
+    /// The rows, which are the same on both sides between calls.
+    pub fn rows(&self) -> &[u32] {
+        &self.theirs
+    }
+
+    /// Lays the same rows out on both sides.
+    pub fn load(&mut self, rows: &[u32]) {
+        self.theirs.copy_from_slice(rows);
+        self.ours.copy_from_slice(rows);
+    }
+
+    /// Puts one entry into both sides' rows.
+    pub fn put(&mut self, row: u32, entry: u32) {
+        if let Some(place) = self.theirs.get_mut(row as usize) {
+            *place = entry;
+            self.ours[row as usize] = entry;
+        }
+    }
+
+    /// Makes the call with a slice of the right length.
+    pub fn call(&mut self, call: &Call) -> Result<Answer, Difference> {
+        self.call_with(call, ROWS)
+    }
+
+    /// Makes the call with a slice of the given length.
+    pub fn call_with(&mut self, call: &Call, length: usize) -> Result<Answer, Difference> {
+        let setting = call.rows().map_or(String::new(), |(row, _)| self.setting(row));
+        let theirs = call.make(self.library, &mut self.theirs[..length], self.state);
+        let ours = call.make(self.model, &mut self.ours[..length], self.state);
+        self.tally.note(call.index(), theirs.answer.number);
+        let found = outcomes(&theirs, &ours).or_else(|| self.row_differs());
+        if let Some(found) = found {
+            return Err(self.report(call, length, &setting, &found));
+        }
+        self.state = theirs.state;
+        Ok(theirs.answer)
+    }
+
+    fn row_differs(&self) -> Option<String> {
+        if self.theirs == self.ours {
+            return None;
+        }
+        let row = (0..BUFFER).find(|row| self.theirs[*row] != self.ours[*row])?;
+        let (theirs, ours) = (self.theirs[row], self.ours[row]);
+        Some(format!("rows[{row:#05x}]: library {theirs:#08x}, model {ours:#08x}"))
+    }
+
+    /// What a row held before the call, and how its page stood.
+    fn setting(&self, row: u32) -> String {
+        if row as usize >= ROWS {
+            return String::new();
+        }
+        let page = owner(row);
+        let state = &self.state;
+        let (secure, nonsecure) = (state.secure[page], state.nonsecure[page]);
+        let (write, read, nokey) = (state.writekey[page], state.readkey[page], state.nokey[page]);
+        format!(
+            " (the row held {:#08x}; page {page}: levels {secure} {nonsecure}, keys {write} {read}, no-key {nokey})",
+            self.theirs[row as usize]
+        )
+    }
+
+    fn report(&self, call: &Call, length: usize, setting: &str, found: &str) -> Difference {
+        let slice = if call.takes_rows() {
+            format!(" ({length} rows)")
+        } else {
+            String::new()
+        };
+        let calls = self.tally.calls;
+        Difference(format!("call {calls} differs: {call}{slice}{setting}: {found}"))
+    }
+}
+
+/// One named field on both sides.
+fn field<T: PartialEq + std::fmt::Debug>(name: &str, theirs: T, ours: T) -> Option<String> {
+    (theirs != ours).then(|| format!("{name}: library {theirs:?}, model {ours:?}"))
+}
+
+/// One named list on both sides.
+fn list<T: PartialEq + std::fmt::Debug>(name: &str, theirs: &[T], ours: &[T]) -> Option<String> {
+    let place = (0..theirs.len()).find(|i| theirs[*i] != ours[*i])?;
+    field(&format!("{name}[{place}]"), &theirs[place], &ours[place])
+}
+
+/// The first field in which two outcomes differ.
+pub fn outcomes(theirs: &Outcome, ours: &Outcome) -> Option<String> {
+    if theirs == ours {
+        return None;
+    }
+    answers(&theirs.answer, &ours.answer).or_else(|| states(&theirs.state, &ours.state))
+}
+
+fn answers(theirs: &Answer, ours: &Answer) -> Option<String> {
+    field("answer.number", theirs.number, ours.number)
+        .or_else(|| field("answer.value", theirs.value, ours.value))
+        .or_else(|| field("answer.condition", theirs.condition, ours.condition))
+        .or_else(|| field("answer.bit", theirs.bit, ours.bit))
+        .or_else(|| field("answer.place", theirs.place, ours.place))
+        .or_else(|| field("answer.pulses", theirs.pulses, ours.pulses))
+}
+
+fn states(theirs: &State, ours: &State) -> Option<String> {
+    list("state.secure", &theirs.secure, &ours.secure)
+        .or_else(|| list("state.nonsecure", &theirs.nonsecure, &ours.nonsecure))
+        .or_else(|| list("state.writekey", &theirs.writekey, &ours.writekey))
+        .or_else(|| list("state.readkey", &theirs.readkey, &ours.readkey))
+        .or_else(|| list("state.nokey", &theirs.nokey, &ours.nokey))
+        .or_else(|| list("state.keys", &theirs.keys, &ours.keys))
+        .or_else(|| list("state.entered", &theirs.entered, &ours.entered))
+}

@@ -1,0 +1,137 @@
+//! Compares the library with the model.
+//!
+//!     compare [CALLS] [SEED]                  random and structured calls; 1,000,000 and seed 1 where not given
+//!     compare [CALLS] [SEED] --fault NAME     the same with one fault in the model
+//!     compare [CALLS] [SEED] --faults         each fault in turn: after how many calls is it found?
+//!     compare --every-row                     every row value read with ECC, every value written over near-blank rows
+//!
+//! The command of the driver, its words parted by spaces, stands in OTP_DRIVER, or as the first argument of all.
+//!
+//! Exits 0 where nothing differs (with `--faults`: where every fault is found), 1 where something does, 2 where it is
+//! asked for something else or has no driver.
+
+use std::process::ExitCode;
+
+use compare::bench::{Bench, Difference};
+use compare::every::every_row;
+use compare::face::{self, Library};
+use compare::fault::{named, Fault, FAULTS};
+use compare::model::Model;
+use compare::run::run;
+
+struct Wish {
+    driver: Option<String>,
+    calls: u64,
+    seed: u64,
+    fault: Option<Fault>,
+    faults: bool,
+    every_row: bool,
+}
+
+/// Reads the command line.
+fn wish() -> Result<Wish, String> {
+    let mut wish = Wish {
+        driver: None,
+        calls: 1_000_000,
+        seed: 1,
+        fault: None,
+        faults: false,
+        every_row: false,
+    };
+    let mut numbers = Vec::new();
+    let mut words = std::env::args().skip(1).peekable();
+    wish.driver = words.next_if(|word| !word.starts_with("--") && word.parse::<u64>().is_err());
+    while let Some(word) = words.next() {
+        match word.as_str() {
+            "--fault" => {
+                let name = words.next().unwrap_or_default();
+                wish.fault = Some(named(&name).ok_or(format!("no fault is named '{name}'"))?);
+            }
+            "--faults" => wish.faults = true,
+            "--every-row" => wish.every_row = true,
+            _ => numbers.push(word.parse::<u64>().map_err(|_| format!("not understood: '{word}'"))?),
+        }
+    }
+    if numbers.len() > 2 {
+        return Err("at most two numbers: calls and seed".to_string());
+    }
+    wish.calls = numbers.first().copied().unwrap_or(wish.calls);
+    wish.seed = numbers.get(1).copied().unwrap_or(wish.seed);
+    Ok(wish)
+}
+
+/// The comparison itself, with the table.
+fn compare(wish: &Wish, library: &Library, sound: &Model) -> Result<(), String> {
+    let model = wish.fault.map_or(sound.clone(), Model::faulty);
+    let mut bench = Bench::new(library, &model);
+    let result = run(&mut bench, &sound.codes, sound, wish.calls, wish.seed);
+    bench.tally.print();
+    result.map_err(|Difference(line)| format!("seed {}: {line}", wish.seed))?;
+    if let Some((name, number)) = bench.tally.missing() {
+        return Err(format!("{name} never gave {number} in {} calls", bench.tally.calls));
+    }
+    println!("{} calls compared, 0 differ", bench.tally.calls);
+    Ok(())
+}
+
+/// Each fault in turn.
+fn faults(wish: &Wish, library: &Library, sound: &Model) -> Result<(), String> {
+    let mut missed = Vec::new();
+    for (fault, name, what) in FAULTS {
+        let model = Model::faulty(fault);
+        let mut bench = Bench::new(library, &model);
+        let found = run(&mut bench, &sound.codes, sound, wish.calls, wish.seed).is_err();
+        match found {
+            true => println!("{name:<20} found after {:>7} calls   {what}", bench.tally.calls),
+            false => {
+                println!("{name:<20} not found in {:>5} calls   {what}", bench.tally.calls);
+                missed.push(name);
+            }
+        }
+    }
+    if !missed.is_empty() {
+        return Err(format!("not found within {} calls: {}", wish.calls, missed.join(", ")));
+    }
+    println!("{} faults, all found", FAULTS.len());
+    Ok(())
+}
+
+fn every(wish: &Wish, library: &Library, sound: &Model) -> Result<(), String> {
+    let model = wish.fault.map_or(sound.clone(), Model::faulty);
+    let calls = every_row(library, &model).map_err(|Difference(line)| line)?;
+    println!("{calls} calls compared, 0 differ");
+    Ok(())
+}
+
+/// What is asked for, and the library to do it with.
+fn begin() -> Result<(Wish, Library), String> {
+    let wish = wish()?;
+    let library = face::library(wish.driver.as_deref())?;
+    Ok((wish, library))
+}
+
+fn main() -> ExitCode {
+    let (wish, library) = match begin() {
+        Ok(both) => both,
+        Err(line) => {
+            eprintln!("compare: {line}");
+            return ExitCode::from(2);
+        }
+    };
+    println!("compared with {}", face::NAME);
+    let sound = Model::sound();
+    let done = if wish.faults {
+        faults(&wish, &library, &sound)
+    } else if wish.every_row {
+        every(&wish, &library, &sound)
+    } else {
+        compare(&wish, &library, &sound)
+    };
+    match done {
+        Ok(()) => ExitCode::SUCCESS,
+        Err(line) => {
+            println!("compare: {line}");
+            ExitCode::from(1)
+        }
+    }
+}

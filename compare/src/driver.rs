@@ -1,0 +1,153 @@
+//! The driver: a child process that holds the library and an image of the rows, and makes one call for each request.
+//! What goes through the pipe is written down in `driver.c`.
+
+use std::io::{self, BufReader, Read, Write};
+use std::process::{Child, ChildStdin, ChildStdout, Command, Stdio};
+
+use crate::shape::{Answer, State};
+use crate::wire;
+
+/// How many entries the driver's image has.
+const IMAGE: usize = 8192;
+/// Room for a reply with some thousand entries.
+const BUFFER: usize = 1 << 16;
+
+/// A call as the driver takes it.
+pub struct Request<'a> {
+    /// Its place in the list of calls.
+    pub call: usize,
+    /// Whether it answers a state.
+    pub outcome: bool,
+    pub rows: &'a [u32],
+    pub state: &'a State,
+    pub arguments: [u32; 4],
+    pub bytes: &'a [u8],
+}
+
+/// What came back: the state is there if the request's call answers one.
+pub struct Reply {
+    pub answer: Answer,
+    pub state: Option<State>,
+    pub changed: Vec<(usize, u32)>,
+}
+
+pub struct Driver {
+    child: Child,
+    /// Closed by taking it away.
+    input: Option<ChildStdin>,
+    output: BufReader<ChildStdout>,
+    /// The driver's image, as it stands there.
+    image: Vec<u32>,
+    request: Vec<u8>,
+}
+
+impl Driver {
+    /// Starts the driver: a program and its arguments, parted by spaces.
+    pub fn start(command: &str) -> Result<Driver, String> {
+        let mut words = command.split_whitespace();
+        let program = words.next().ok_or("the command of the driver is empty")?;
+        let mut child = Command::new(program)
+            .args(words)
+            .stdin(Stdio::piped())
+            .stdout(Stdio::piped())
+            .spawn()
+            .map_err(|error| format!("the driver '{program}' does not start: {error}"))?;
+        let input = child.stdin.take();
+        let output = child.stdout.take().ok_or("the driver has no output")?;
+        Ok(Driver {
+            child,
+            input,
+            output: BufReader::with_capacity(BUFFER, output),
+            image: vec![0; IMAGE],
+            request: Vec::with_capacity(BUFFER),
+        })
+    }
+
+    /// Makes one call.
+    pub fn ask(&mut self, request: &Request) -> Result<Reply, String> {
+        self.write_down(request);
+        let sent = self.send();
+        sent.map_err(|error| self.lost(error))?;
+        self.receive(request.outcome)
+    }
+
+    /// The request's bytes. Only the entries that the driver's image lacks are among them.
+    fn write_down(&mut self, request: &Request) {
+        let differ: Vec<usize> = differences(request.rows, &self.image);
+        self.request.clear();
+        for count in [request.call, request.rows.len(), differ.len(), request.bytes.len()] {
+            wire::put_number(&mut self.request, count as u32);
+        }
+        for argument in request.arguments {
+            wire::put_number(&mut self.request, argument);
+        }
+        wire::put_state(&mut self.request, request.state);
+        for place in differ {
+            self.image[place] = request.rows[place];
+            wire::put_number(&mut self.request, place as u32);
+            wire::put_number(&mut self.request, request.rows[place]);
+        }
+        self.request.extend(request.bytes);
+    }
+
+    fn send(&mut self) -> io::Result<()> {
+        match &mut self.input {
+            Some(input) => input.write_all(&self.request),
+            None => Err(io::ErrorKind::BrokenPipe.into()),
+        }
+    }
+
+    fn receive(&mut self, outcome: bool) -> Result<Reply, String> {
+        let count = wire::number(&self.read()?);
+        let answer = wire::answer(&self.read()?);
+        let state = match outcome {
+            true => Some(wire::state(&self.read()?)?),
+            false => None,
+        };
+        let mut changed = Vec::new();
+        for _ in 0..count {
+            let place = wire::number(&self.read()?) as usize;
+            let value = wire::number(&self.read()?);
+            let entry = self
+                .image
+                .get_mut(place)
+                .ok_or("the driver names no entry of its image")?;
+            *entry = value;
+            changed.push((place, value));
+        }
+        Ok(Reply { answer, state, changed })
+    }
+
+    fn read<const N: usize>(&mut self) -> Result<[u8; N], String> {
+        let mut bytes = [0; N];
+        match self.output.read_exact(&mut bytes) {
+            Ok(()) => Ok(bytes),
+            Err(error) => Err(self.lost(error)),
+        }
+    }
+
+    /// Why no reply came.
+    fn lost(&mut self, error: io::Error) -> String {
+        self.input = None;
+        match self.child.wait() {
+            Ok(status) => format!("the driver ended ({status})"),
+            Err(_) => format!("the driver does not answer: {error}"),
+        }
+    }
+}
+
+/// The places where the rows are not as in the image.
+fn differences(rows: &[u32], image: &[u32]) -> Vec<usize> {
+    if rows == &image[..rows.len()] {
+        return Vec::new();
+    }
+    (0..rows.len()).filter(|place| rows[*place] != image[*place]).collect()
+}
+
+/// The driver ends when its input does.
+impl Drop for Driver {
+    fn drop(&mut self) {
+        self.input = None;
+        let _ = self.child.wait();
+    }
+}

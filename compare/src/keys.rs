@@ -1,0 +1,91 @@
+//! Access keys: where they lie, how they are latched, when one matches, and what that does to a page.
+
+use crate::code::bit;
+use crate::fault::Fault;
+use crate::model::Model;
+use crate::shape::{Key, State};
+
+const KEY_ROWS: u32 = 0xf48;
+const VALID_ROWS: u32 = 0xf78;
+
+/// The first of the eight rows of key k, 1 to 6.
+pub fn first_row(k: u32) -> u32 {
+    KEY_ROWS + 8 * (k - 1)
+}
+
+/// The row of key k's valid flag.
+pub fn flag_row(k: u32) -> u32 {
+    VALID_ROWS + k
+}
+
+/// Whether a row belongs to a key that is latched valid.
+pub fn hidden(state: &State, row: u32) -> bool {
+    (1..=6).any(|k| {
+        let first = first_row(k);
+        state.keys[k as usize - 1].valid && first <= row && row < first + 8
+    })
+}
+
+/// The words of a key given as 16 bytes, low byte first.
+pub fn words(bytes: &[u8]) -> [u16; 8] {
+    let mut words = [0; 8];
+    for (i, word) in words.iter_mut().enumerate() {
+        *word = u16::from(bytes[2 * i]) + 256 * u16::from(bytes[2 * i + 1]);
+    }
+    words
+}
+
+impl Model {
+    /// Latches key k. A row that does not decode leaves word 0 and a key that is not whole.
+    pub fn latch_key(&self, rows: &[u32], k: u32) -> Key {
+        let mut key = Key {
+            words: [0; 8],
+            valid: false,
+            whole: true,
+        };
+        for i in 0..8 {
+            match self.decode(rows[first_row(k) as usize + i]) {
+                Some(near) => key.words[i] = near.value,
+                None => key.whole = false,
+            }
+        }
+        let flag = rows[flag_row(k) as usize];
+        key.valid = [0, 8, 16].iter().filter(|place| bit(flag, **place)).count() >= 2;
+        key
+    }
+
+    /// A latched key index; above 7 counts as 7.
+    fn index(&self, latched: u8) -> u8 {
+        if self.has(Fault::IndexWraps) {
+            return latched & 7;
+        }
+        latched.min(7)
+    }
+
+    /// Whether the key of an index matches the entered one.
+    fn matches(&self, state: &State, index: u8) -> bool {
+        if !(1..=6).contains(&index) {
+            return false;
+        }
+        let key = &state.keys[usize::from(index) - 1];
+        let whole = key.whole || self.has(Fault::PartialKey);
+        let given = state.entered.iter().any(|word| *word != 0) || self.has(Fault::ZeroKey);
+        given && key.valid && whole && key.words == state.entered
+    }
+
+    /// The key level of a page, case by case as document 01 lists them.
+    #[allow(clippy::if_same_then_else)]
+    pub fn key_level(&self, state: &State, page: usize) -> u32 {
+        let write = self.index(state.writekey[page]);
+        let read = self.index(state.readkey[page]);
+        if write == 0 && read == 0 {
+            0
+        } else if self.matches(state, write) {
+            0
+        } else if self.matches(state, read) {
+            u32::from(!(self.has(Fault::ReadKeyLevel0) && write == 0))
+        } else {
+            u32::from(state.nokey[page]) + 1
+        }
+    }
+}

@@ -1,0 +1,37 @@
+//! A second reading of document 01, and the means to compare it with the library.
+//!
+//! The model is in `model` and `calls`, with its subjects in `code`, `locks`, `keys` and `jobs`. The library is in
+//! `face`, behind the child process of `driver` and the bytes of `wire`.
+//! Everything else draws calls, makes them on both sides and compares what comes back.
+
+pub mod shape;
+
+pub mod calls;
+pub mod code;
+pub mod fault;
+pub mod jobs;
+pub mod keys;
+pub mod locks;
+pub mod model;
+
+#[cfg(not(feature = "self-test"))]
+pub mod driver;
+#[cfg(not(feature = "self-test"))]
+pub mod face;
+#[cfg(feature = "self-test")]
+#[path = "selftest.rs"]
+pub mod face;
+#[cfg(not(feature = "self-test"))]
+pub mod wire;
+
+pub mod arguments;
+pub mod bench;
+pub mod call;
+pub mod every;
+pub mod images;
+pub mod jobfiles;
+pub mod random;
+pub mod run;
+pub mod sequences;
+pub mod states;
+pub mod tally;

@@ -1,0 +1,148 @@
+//! The mix of calls: one image after another, each met by some hundred calls, with cut sequences in between.
+
+use crate::arguments;
+use crate::bench::{Bench, Difference};
+use crate::call::Call;
+use crate::code::Codes;
+use crate::images::{too_large, Image};
+use crate::jobfiles;
+use crate::locks::owner;
+use crate::random::Random;
+use crate::sequences;
+use crate::shape::{Chip, State, ROWS};
+use crate::states;
+
+/// How many calls one image is met by.
+const EPISODE: u64 = 160;
+
+/// Makes so many calls. The images and arguments depend on the seed alone, as long as nothing differs.
+pub fn run(bench: &mut Bench, codes: &Codes, sound: &dyn Chip, calls: u64, seed: u64) -> Result<(), Difference> {
+    let mut random = Random::new(seed);
+    while bench.tally.calls < calls {
+        let room = calls - bench.tally.calls;
+        if room >= sequences::MOST_CALLS && random.coin() {
+            sequences::cut(&mut random, bench, codes)?;
+        } else {
+            episode(&mut random, bench, codes, sound, room.min(EPISODE))?;
+        }
+    }
+    Ok(())
+}
+
+/// One image and its calls. Natural episodes have no state but what reset and the calls make.
+fn episode(
+    random: &mut Random,
+    bench: &mut Bench,
+    codes: &Codes,
+    sound: &dyn Chip,
+    calls: u64,
+) -> Result<(), Difference> {
+    let whole = random.coin();
+    let image = Image::new(random, codes, whole);
+    let natural = random.once_in(3);
+    bench.load(&image.rows);
+    bench.state = if natural {
+        State::blank()
+    } else {
+        states::by_hand(random, &image)
+    };
+    for turn in 0..calls {
+        let call = match natural && turn == 0 {
+            true => Call::Reset,
+            false => draw(random, bench, &image, codes, sound),
+        };
+        if let Some((first, count)) = call.rows() {
+            stir(random, bench, &image, codes, natural, first, count);
+        }
+        let length = if call.takes_rows() {
+            arguments::length(random)
+        } else {
+            ROWS
+        };
+        bench.call_with(&call, length)?;
+    }
+    Ok(())
+}
+
+/// Before a call that names rows: now and then other entries in them, and other settings of their page.
+fn stir(random: &mut Random, bench: &mut Bench, image: &Image, codes: &Codes, natural: bool, first: u32, count: u32) {
+    if first >= ROWS as u32 {
+        return;
+    }
+    let share = random.below(4);
+    for row in first..(first + count).min(ROWS as u32) {
+        if random.below(4) < share {
+            bench.put(row, image.entry(random, codes));
+        }
+    }
+    let row = first + random.below(count.max(1));
+    if random.once_in(48) && row < ROWS as u32 {
+        bench.put(row, too_large(random));
+    }
+    if !natural && random.once_in(3) && row < ROWS as u32 {
+        states::change_page(random, image, &mut bench.state, owner(row));
+    }
+}
+
+/// Draws a call; those that cost most come up least.
+fn draw(random: &mut Random, bench: &mut Bench, image: &Image, codes: &Codes, sound: &dyn Chip) -> Call {
+    let caller = arguments::caller(random);
+    let row = arguments::row(random, image);
+    match random.below(100) {
+        0 | 1 => Call::Reset,
+        2..=15 => Call::ReadRaw { caller, row },
+        16..=33 => Call::ReadEcc { caller, row },
+        34..=47 => Call::ReadVote {
+            caller,
+            row: arguments::group(random, image),
+            count: arguments::count(random),
+        },
+        48..=60 => Call::WriteRaw {
+            caller,
+            row,
+            value: arguments::raw_value(random),
+        },
+        61..=77 => Call::WriteEcc {
+            caller,
+            row,
+            value: arguments::ecc_value(random, image),
+        },
+        78..=82 => Call::Advance {
+            caller,
+            domain: arguments::domain(random),
+            page: arguments::page(random, image),
+            level: arguments::level(random),
+        },
+        83..=86 => Call::Show {
+            caller,
+            domain: arguments::domain(random),
+            page: arguments::page(random, image),
+        },
+        87..=90 => Call::EnterKey {
+            caller,
+            key: arguments::key(random, image),
+        },
+        _ => job(random, bench, image, codes, sound),
+    }
+}
+
+/// Draws a job or a rehearsal, and now and then other entries in the rows that it names.
+fn job(random: &mut Random, bench: &mut Bench, image: &Image, codes: &Codes, sound: &dyn Chip) -> Call {
+    let entries = jobfiles::entries(random, image);
+    let share = if entries.len() > 12 { 0 } else { random.below(4) };
+    for entry in &entries {
+        if random.below(6) < share {
+            bench.put(entry.row, image.entry(random, codes));
+        } else if share == 3 && random.once_in(12) {
+            bench.put(entry.row, too_large(random));
+        }
+    }
+    let job = jobfiles::file(random, &entries);
+    if random.once_in(3) {
+        return Call::RunJob { job };
+    }
+    let mut rows = bench.rows()[..ROWS].to_vec();
+    let whole = sound.run_job(&mut rows, bench.state, &job).answer.pulses;
+    let limit = sequences::limit(random, whole);
+    Call::Rehearse { job, limit }
+}

@@ -1,0 +1,168 @@
+//! The model alone against document 01: its twelve worked rows, its two 'Run' lines, and what it says of any value.
+
+use compare::model::Model;
+use compare::shape::{Answer, Chip, State, LARGEST, ROWS};
+
+const ROW: u32 = 0x0c0;
+const JOB: [u8; 13] = [
+    0x4f, 0x54, 0x4a, 0x01, 0x00, 0x01, 0x00, 0xc0, 0x00, 0x00, 0x01, 0x00, 0x00,
+];
+
+fn chip(entry: u32) -> Vec<u32> {
+    let mut rows = vec![0; ROWS];
+    rows[ROW as usize] = entry;
+    rows
+}
+
+fn read(model: &Model, entry: u32) -> Answer {
+    model.read_ecc(&chip(entry), State::blank(), 0, ROW)
+}
+
+fn write(model: &Model, value: u32, entry: u32) -> (Answer, u32) {
+    let mut rows = chip(entry);
+    let outcome = model.write_ecc(&mut rows, State::blank(), 0, ROW, value);
+    assert_eq!(outcome.state, State::blank());
+    (outcome.answer, rows[ROW as usize])
+}
+
+fn clean(value: u32) -> Answer {
+    Answer::value(value)
+}
+
+fn repaired(value: u32, bit: u32) -> Answer {
+    Answer {
+        condition: 1,
+        bit,
+        ..Answer::value(value)
+    }
+}
+
+fn pulses(pulses: u32) -> Answer {
+    Answer {
+        pulses,
+        ..Answer::default()
+    }
+}
+
+#[test]
+fn the_twelve_worked_rows() {
+    let model = Model::sound();
+    assert_eq!(model.codes.of(0xffff), 0x1effff);
+    assert_eq!(model.codes.of(0x8000), 0x158000);
+    assert_eq!(read(&model, 0x230001), clean(1));
+    assert_eq!(read(&model, 0x230000), repaired(1, 0));
+    assert_eq!(read(&model, 0x000001), repaired(0, 0));
+    assert_eq!(read(&model, 0x000003), Answer::refused(8));
+    assert_eq!(read(&model, 0x160000), Answer::refused(8));
+    assert_eq!(read(&model, 0xdcfffe), clean(1));
+    assert_eq!(read(&model, 0x9cfffe), Answer::refused(8));
+    assert_eq!(write(&model, 1, 0x000002), (pulses(19), 0xdcfffe));
+    assert_eq!(write(&model, 1, 0x000003), (Answer::refused(9), 0x000003));
+    assert_eq!(write(&model, 3, 0x230001), (Answer::refused(9), 0x230001));
+}
+
+#[test]
+fn the_job_on_a_blank_page_makes_four_pulses() {
+    let model = Model::sound();
+    let mut rows = chip(0);
+    let outcome = model.run_job(&mut rows, State::blank(), &JOB);
+    assert_eq!(
+        outcome.answer,
+        Answer {
+            place: 1,
+            pulses: 4,
+            ..Answer::default()
+        }
+    );
+    assert_eq!(outcome.state, State::blank());
+    assert_eq!(rows, chip(0x230001));
+}
+
+#[test]
+fn cut_after_two_pulses_and_run_again() {
+    let model = Model::sound();
+    let mut rows = chip(0);
+    let cut = model.rehearse(&mut rows, State::blank(), &JOB, 2);
+    assert_eq!(
+        cut.answer,
+        Answer {
+            place: 0,
+            pulses: 2,
+            ..Answer::default()
+        }
+    );
+    assert_eq!(rows, chip(0x010001));
+    let state = model.reset(&rows, cut.state);
+    assert_eq!(state.answer, Answer::default());
+    let full = model.run_job(&mut rows, state.state, &JOB);
+    assert_eq!(
+        full.answer,
+        Answer {
+            place: 1,
+            pulses: 2,
+            ..Answer::default()
+        }
+    );
+    assert_eq!(rows, chip(0x230001));
+}
+
+#[test]
+fn no_word_lies_near_two_values() {
+    assert_eq!(Model::sound().codes.shared, 0);
+}
+
+/// The table of near values against the search that document 01 words: look at every value's code.
+#[test]
+fn the_table_is_the_search() {
+    let model = Model::sound();
+    let mut word: u32 = 1;
+    for _ in 0..500 {
+        word = word.wrapping_mul(0x0019_660d).wrapping_add(0x3c6e_f35f);
+        let part = word >> 10;
+        let found = (0..=0xffffu32).find(|value| (model.codes.of(*value) ^ part).count_ones() <= 1);
+        let near = model.codes.near(part);
+        assert_eq!(found, near.map(|near| u32::from(near.value)));
+        if let (Some(value), Some(near)) = (found, near) {
+            let bit = near.repaired.map_or(0, |place| 1 << place);
+            assert_eq!(model.codes.of(value) ^ part, bit);
+        }
+    }
+}
+
+#[test]
+fn one_flip_is_corrected_and_a_lost_polarity_bit_is_refused() {
+    let model = Model::sound();
+    for value in 0..=0xffff {
+        let plain = model.codes.of(value);
+        let inverted = plain ^ LARGEST;
+        for row in [plain, inverted] {
+            assert_eq!(
+                model.decode(row).map(|near| (u32::from(near.value), near.repaired)),
+                Some((value, None))
+            );
+            for place in 0..22u8 {
+                let near = model.decode(row ^ 1 << place).expect("one flip is corrected");
+                assert_eq!((u32::from(near.value), near.repaired), (value, Some(place)));
+            }
+        }
+        for place in [22, 23] {
+            let near = model.decode(plain ^ 1 << place).expect("a plain row takes no harm");
+            assert_eq!((u32::from(near.value), near.repaired), (value, None));
+            assert_eq!(model.decode(inverted ^ 1 << place), None);
+        }
+    }
+}
+
+#[test]
+fn at_most_one_bit_beforehand_is_never_refused() {
+    let model = Model::sound();
+    for value in 0..=0xffff {
+        assert!(model.polarity(value, 0).is_some());
+        for place in 0..24 {
+            let old = 1 << place;
+            let new = model.polarity(value, old).expect("one of the two fits");
+            assert_eq!(new & old, old);
+            assert_eq!(model.decode(new).map(|near| u32::from(near.value)), Some(value));
+        }
+    }
+}
