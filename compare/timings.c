@@ -1,0 +1,103 @@
+/* How long each call of libotp.a takes, and the most stack that it uses: the figures of docs/TIMINGS.md. Each call is made on
+   a board of 512 burnt rows, by Secure, and is done (number 0). A time is the best of many runs, so that other work on the
+   machine counts little. Stack is measured: the call runs on a stack of its own that was painted before. */
+#define _GNU_SOURCE
+#include <stdio.h>
+#include <stdlib.h>
+#include <string.h>
+#include <time.h>
+#include <ucontext.h>
+#include "otp.h"
+
+enum { ROWS = 4096, JOB = 7 + 6 * 512, STACK = 65536, RUNS = 300 };
+
+static uint32_t blank[ROWS], burnt[ROWS], rows[ROWS];
+static uint8_t job[JOB], key[16] = {1};
+static otp_state state;
+static otp_answer answer;
+
+static void keep(otp_outcome o) { answer = o.answer; }
+
+static void nothing(void) {}
+static void reset(void) { keep(otp_reset(rows, ROWS, state)); }
+static void read_raw(void) { answer = otp_read_raw(rows, ROWS, state, 0, 7); }
+static void read_ecc(void) { answer = otp_read_ecc(rows, ROWS, state, 0, 7); }
+static void read_vote(void) { answer = otp_read_vote(rows, ROWS, state, 0, 8, 8); }
+static void write_raw(void) { keep(otp_write_raw(rows, ROWS, state, 0, 8, 0xff)); }
+static void write_ecc(void) { keep(otp_write_ecc(rows, ROWS, state, 0, 8, 0x5053)); }
+static void advance(void) { keep(otp_advance(state, 0, 0, 9, 1)); }
+static void show(void) { answer = otp_show(state, 0, 0, 9); }
+static void enter_key(void) { keep(otp_enter_key(state, 0, key, sizeof key)); }
+static void run_job(void) { keep(otp_run_job(rows, ROWS, state, job, JOB)); }
+static void rehearse(void) { keep(otp_rehearse(rows, ROWS, state, job, JOB, 2700)); }
+
+static const struct { const char *name; void (*call)(void); const uint32_t *board; } calls[] = {
+    {"reset", reset, burnt}, {"read raw", read_raw, burnt}, {"read ECC", read_ecc, burnt},
+    {"read a vote of 8", read_vote, burnt}, {"write raw", write_raw, burnt}, {"write ECC", write_ecc, burnt},
+    {"advance a lock", advance, burnt}, {"show a lock", show, burnt}, {"enter a key", enter_key, burnt},
+    {"run a job of 512", run_job, blank}, {"rehearse, 2,700 pulses", rehearse, blank},
+};
+
+static double nanoseconds(void)
+{
+    struct timespec t;
+    clock_gettime(CLOCK_MONOTONIC, &t);
+    return (double)t.tv_sec * 1e9 + (double)t.tv_nsec;
+}
+
+static double best_time(void (*call)(void), const uint32_t *board)
+{
+    double best = 1e18;
+    for (int run = 0; run < RUNS; run++) {
+        memcpy(rows, board, sizeof rows);
+        double before = nanoseconds();
+        call();
+        double took = nanoseconds() - before;
+        if (took < best)
+            best = took;
+    }
+    return best;
+}
+
+static size_t stack_used(void (*call)(void), const uint32_t *board)
+{
+    static unsigned char stack[STACK];
+    ucontext_t here, there;
+    size_t untouched = 0;
+    memcpy(rows, board, sizeof rows);
+    memset(stack, 0xa5, sizeof stack);
+    getcontext(&there);
+    there.uc_stack.ss_sp = stack;
+    there.uc_stack.ss_size = sizeof stack;
+    there.uc_link = &here;
+    makecontext(&there, call, 0);
+    swapcontext(&here, &there);
+    while (untouched < STACK && stack[untouched] == 0xa5)
+        untouched++;
+    return STACK - untouched;
+}
+
+int main(void)
+{
+    memcpy(job, "\x4f\x54\x4a\x01\x00\x00\x02", 7);
+    for (unsigned i = 0; i < 512; i++) {
+        unsigned row = 7 * i, value = 129 * i % 65536;
+        uint8_t entry[6] = {(uint8_t)(row % 256), (uint8_t)(row / 256), 0, (uint8_t)(value % 256), (uint8_t)(value / 256), 0};
+        memcpy(job + 7 + 6 * i, entry, sizeof entry);
+    }
+    run_job();
+    memcpy(burnt, rows, sizeof rows);
+    double empty_time = best_time(nothing, blank);
+    size_t empty_stack = stack_used(nothing, blank);
+    printf("call                     nanoseconds   stack\n");
+    for (size_t i = 0; i < sizeof calls / sizeof calls[0]; i++) {
+        double took = best_time(calls[i].call, calls[i].board) - empty_time;
+        size_t stack = stack_used(calls[i].call, calls[i].board) - empty_stack;
+        if (answer.number != 0) {
+            printf("%s was refused with %u\n", calls[i].name, (unsigned)answer.number);
+            return 1;
+        }
+        printf("%-22s %13.0f %7zu\n", calls[i].name, took, stack);
+    }
+    return 0;
+}
