@@ -1,0 +1,46 @@
+// Drives each of the nine calls through every number that it can give, against document 01.
+// The cases, each with what must be, are the program's input: the file stdin beside src. After a
+// write all rows and the whole state are compared, and after a call on the state all of it.
+mod answers;
+mod board;
+mod names;
+mod outcomes;
+mod preparing;
+mod print;
+mod row_calls;
+mod said;
+mod same;
+mod scene;
+mod state_calls;
+mod states;
+mod tally;
+mod text;
+
+use libc::STDIN_FILENO;
+
+fn legend() {
+    print::text(
+        b"The numbers of the nine calls against document 01
+
+An answer is its number, its value, its condition (clean, or the repaired bit) and its pulses.
+S is the caller Secure (0), N is Non-secure (1). What must be left of rows and state:
+  kept     every row and the whole state as they were
+  burnt    the row as the write must leave it, every other row and the whole state as they were
+  latched  the state that reset must make of the rows
+  raised   the state with that one level
+  entered  the state with that key entered
+  -        nothing to leave: a read or a show
+",
+    );
+}
+
+fn main() {
+    legend();
+    let mut input = io::large_buffer();
+    let count = io::read_full(STDIN_FILENO, &mut input);
+    let all = scene::play(&input[..count]);
+    if count == 65536 {
+        print::text(b"the input may be longer than what was read\n");
+    }
+    tally::last_line(all);
+}
