@@ -46,9 +46,9 @@ def blank():
 
 
 def locked():
-    """Locks of every level, keys, no-key states. Each page from 1 to 12 has one value, in its first row."""
+    """Locks of every level, keys, no-key states. Each locked page has one value, in its first row."""
     rows = blank()
-    for page in range(1, 13):
+    for page in (1, 2, 4, 5, 6, 7, 8, 9, 10, 11, 12):
         rows[64 * page] = plain(0x1000 + page)
     lock(rows, 1, secure=1, nonsecure=1)
     lock(rows, 2, nonsecure=1)
@@ -78,9 +78,9 @@ def worn():
     rows[0x0C0] = plain(0x5053)
     rows[0x0C1] = plain(0x004C) & ~(1 << 3)  # repaired bit 3
     rows[0x0C2] = inverted(1) & ~(1 << 18)  # repaired bit 18
-    rows[0x0C3] = 0x000003  # no value within one bit
-    rows[0x0C4] = plain(240) | 1 << 22  # reads clean, and no polarity fits a write
-    rows[0x0C5] = inverted(240) & ~(1 << 23)  # lost half of its mark: refused, never misread
+    rows[0x0C3] = 0x000003  # no value within one bit; of 320 the inverted row fits, and of 1 neither
+    rows[0x0C5] = plain(240) | 1 << 22  # reads clean, and neither polarity of 240 fits
+    rows[0x0C6] = inverted(240) & ~(1 << 23)  # lost half of its mark: refused, never misread
     # Critical flags: bit 0 stands in all eight rows, bit 1 in three, bit 2 in two.
     for i in range(8):
         rows[0x038 + i] = 1 | (i < 3) << 1 | (i < 2) << 2

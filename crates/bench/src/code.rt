@@ -17,17 +17,26 @@ fn row_line(name: &[u8], row: u32) {
     print::text(b"\n");
 }
 
-fn show(value: u16) {
+fn value_line(value: u32) {
     print::left(b"value", 10);
-    print::value(value as u32);
+    print::value(value);
     print::text(b" = ");
-    print::number(value as u32);
+    print::number(value);
     print::text(b"\n");
+}
+
+// The code, and the titles of the fields that the rows below it have.
+fn code_line(bits: u32) {
     print::left(b"code", 10);
-    print::bits(code(value));
+    print::bits(bits);
     print::text(b"  ");
     print::field_titles();
     print::text(b"\n");
+}
+
+fn show(value: u16) {
+    value_line(value as u32);
+    code_line(code(value));
     row_line(b"plain", plain(value));
     row_line(b"inverted", inverted(value));
 }

@@ -1,6 +1,8 @@
 // Images and jobs as files. Whatever goes wrong is said in one line.
+ghost use Prim.Native.Nat.{_<_};
+use crate::file_errors::said;
+use crate::file_errors::unread;
 use crate::print;
-use crate::words;
 
 // How many bytes a file has, or that it has more than there is room for, or that it was not read.
 enum Loaded {
@@ -9,56 +11,13 @@ enum Loaded {
     Nothing,
 }
 
-// Says what a system call's error means.
-pub fn reason(error: i32) {
-    if error == libc::ENOENT {
-        print::line(b"no such file or folder");
-        return;
-    }
-    if error == libc::EACCES {
-        print::line(b"no permission");
-        return;
-    }
-    if error == libc::EISDIR {
-        print::line(b"it is a folder");
-        return;
-    }
-    if error == libc::ENOTDIR {
-        print::line(b"a part of its path is no folder");
-        return;
-    }
-    if error == libc::EEXIST {
-        print::line(b"its .part file is in the way, from a run that was stopped");
-        return;
-    }
-    if error == libc::ENOSPC {
-        print::line(b"the disk is full");
-        return;
-    }
-    if error == libc::ENAMETOOLONG {
-        print::line(b"its name is too long");
-        return;
-    }
-    print::line(b"the system refuses it");
-}
-
-// One line on a file: its name, and what is wrong.
-pub fn said(place: usize, what: &[u8]) {
-    print::text(b"otp: '");
-    words::print_word(place);
-    print::text(b"': ");
-    print::text(what);
-}
-
 // Reads a file from its start. One byte more is asked for, to tell the end of the file from a failure and from a file that is longer.
 fn load(place: usize, bytes: &mut [u8]) -> Loaded {
     let mut path = io::buffer();
     let n = os::arg(place, &mut path);
     let fd = os::open_read(&path[..n]);
     if fd < 0 {
-        let error = os::errno();
-        said(place, b"cannot be read: ");
-        reason(error);
+        unread(place, os::errno());
         return Loaded::Nothing;
     }
     let got = io::read_full(fd, bytes);
@@ -67,8 +26,7 @@ fn load(place: usize, bytes: &mut [u8]) -> Loaded {
     let error = os::errno();
     libc::close(fd);
     if more < 0 {
-        said(place, b"cannot be read: ");
-        reason(error);
+        unread(place, error);
         return Loaded::Nothing;
     }
     if 0 < more {
@@ -89,9 +47,10 @@ fn byte_at(bytes: &[u8], at: usize) -> u32 {
     wide(bytes[at])
 }
 
-// The row whose four bytes begin at a place, low byte first.
-fn row_at(bytes: &[u8], row: usize) -> u32 {
-    let at = row % 4096 * 4;
+// The number whose four bytes begin at a place, low byte first.
+pub fn four_at(bytes: &[u8], at: usize) -> u32
+    requires { ⌜ at < 65536 ⌝ }
+{
     byte_at(bytes, at)
         | (byte_at(bytes, at + 1) << 8)
         | (byte_at(bytes, at + 2) << 16)
@@ -100,12 +59,12 @@ fn row_at(bytes: &[u8], row: usize) -> u32 {
 
 fn rows_of(bytes: &[u8], rows: &mut [u32; 4096]) {
     for row in 0..4096 {
-        rows[row] = row_at(bytes, row);
+        rows[row] = four_at(bytes, 4 * row);
     }
 }
 
 fn wrong_length(place: usize, n: usize) {
-    said(place, b"an image has 16,384 bytes, and this file ");
+    said(place, b"an image has 16384 bytes, and this file ");
     print::bytes(n);
     print::text(b"\n");
 }
@@ -123,7 +82,7 @@ pub fn load_image(place: usize, rows: &mut [u32; 4096]) -> bool {
             true
         }
         Loaded::More => {
-            said(place, b"an image has 16,384 bytes, and this file more\n");
+            said(place, b"an image has 16384 bytes, and this file more\n");
             false
         }
         Loaded::Nothing => false,
@@ -141,10 +100,7 @@ pub fn load_job(place: usize, job: &mut [u8; 3079]) -> Length {
     match load(place, job) {
         Loaded::Bytes(n) => Length::Is(n),
         Loaded::More => {
-            said(
-                place,
-                b"a job has at most 3,079 bytes, and this file more\n",
-            );
+            said(place, b"a job has at most 3079 bytes, and this file more\n");
             Length::Not
         }
         Loaded::Nothing => Length::Not,

@@ -1,12 +1,16 @@
 // The bench crew's command: rehearse a job on an image of a chip, read a row, show the pages, show the code of a value.
 // The script ./otp at the root runs it, and turns the last line that it writes into an exit status.
 mod begin;
+mod changes;
 mod code;
 mod ended;
+mod file_errors;
 mod files;
 mod help;
+mod job_refusals;
 mod numbers;
 mod owner;
+mod page_line;
 mod pages;
 mod print;
 mod read;

@@ -32,9 +32,7 @@ fn answer_of(rows: &[u32], state: State, caller: u32, row: u32, way: Way) -> Ans
     }
 }
 
-fn title(caller: u32, row: u32, way: Way) {
-    print::left(b"read", 12);
-    print::row(row);
+fn way_words(way: Way) {
     match way {
         Way::Ecc => print::text(b" with ECC"),
         Way::Raw => print::text(b" as it is"),
@@ -44,6 +42,12 @@ fn title(caller: u32, row: u32, way: Way) {
             print::text(b" rows");
         }
     }
+}
+
+fn title(caller: u32, row: u32, way: Way) {
+    print::left(b"read", 12);
+    print::row(row);
+    way_words(way);
     if caller == 0 {
         print::line(b", by Secure");
     } else {

@@ -1,6 +1,5 @@
 // Saving an image: whole under its name, or not at all. It is written under a temporary name beside its own, and renamed at the end.
-use crate::files::reason;
-use crate::files::said;
+use crate::file_errors::unwritten;
 
 // One of the four bytes of a row, the low one first.
 fn byte_of(row: u32, which: u32) -> u8 {
@@ -93,8 +92,7 @@ pub fn save(place: usize, rows: &[u32; 4096]) -> bool {
     let length = with_part(&mut temporary, m);
     let error = write(&path[..n], &temporary, length, &bytes);
     if error != 0 {
-        said(place, b"cannot be written: ");
-        reason(error);
+        unwritten(place, error);
         return false;
     }
     true

@@ -13,8 +13,11 @@ abbrev μ-loop : tie.MeasureT-loop
 loop-holds : tie.Need-loop-holds Inv-loop μ-loop
 loop-holds c = search needs
 
-row-at-requires : tie.Need-row-at-requires Inv-loop μ-loop
-row-at-requires c κs = search needs
+mul-four-at : tie.Need-mul-four-at Inv-loop μ-loop
+mul-four-at c = search needs
+
+four-at-requires : tie.Need-four-at-requires Inv-loop μ-loop
+four-at-requires c κs = search needs
 
 mul-rows : tie.Need-mul-rows Inv-loop μ-loop
 mul-rows c = search needs
@@ -41,7 +44,8 @@ rows-of-spec =
     Inv-loop
     μ-loop
     loop-holds
-    row-at-requires
+    mul-four-at
+    four-at-requires
     mul-rows
     element-write-rows
     add-row

@@ -1,8 +1,8 @@
--- `bench::pages::burnt` is safe and ends: each turn counts one row. Assumes nothing.
+-- `bench::page_line::burnt` is safe and ends: each turn counts one row. Assumes nothing.
 use Prim.Native.Nat.{_-_}
 use borrow.Author.Needs.{needs}
-use Rattle.bench.proofs.pages.burnt.Statement.{statement}
-use Rattle.bench.proofs.pages.burnt.Tie as tie
+use Rattle.bench.proofs.page_line.burnt.Statement.{statement}
+use Rattle.bench.proofs.page_line.burnt.Tie as tie
 
 abbrev Inv-loop : tie.InvT-loop
 Inv-loop rows page sum₀ more₀ sum more = Unit

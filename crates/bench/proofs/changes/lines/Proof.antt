@@ -1,8 +1,8 @@
--- `bench::rehearse::changes` is safe and ends: each turn takes one entry. Assumes nothing.
+-- `bench::changes::lines` is safe and ends: each turn takes one entry. Assumes nothing.
 use Prim.Native.Nat.{_-_}
 use borrow.Author.Needs.{needs}
-use Rattle.bench.proofs.rehearse.changes.Statement.{statement}
-use Rattle.bench.proofs.rehearse.changes.Tie as tie
+use Rattle.bench.proofs.changes.lines.Statement.{statement}
+use Rattle.bench.proofs.changes.lines.Tie as tie
 
 abbrev Inv-loop : tie.InvT-loop
 Inv-loop before after job count place₀ place = Unit
@@ -40,8 +40,8 @@ loop-again c = search needs
 returns : tie.Need-returns Inv-loop μ-loop
 returns c = search needs
 
-pub changes-spec : {M : Type 1} → statement M
-changes-spec =
+pub lines-spec : {M : Type 1} → statement M
+lines-spec =
     tie.close
     (tie.spec
     Inv-loop

@@ -1,8 +1,8 @@
--- `bench::refusals::first_bad` is safe and ends: each turn asks about one entry more. Assumes nothing.
+-- `bench::job_refusals::first_bad` is safe and ends: each turn asks about one entry more. Assumes nothing.
 use Prim.Native.Nat.{_-_}
 use borrow.Author.Needs.{needs}
-use Rattle.bench.proofs.refusals.first_bad.Statement.{statement}
-use Rattle.bench.proofs.refusals.first_bad.Tie as tie
+use Rattle.bench.proofs.job_refusals.first_bad.Statement.{statement}
+use Rattle.bench.proofs.job_refusals.first_bad.Tie as tie
 
 abbrev Inv-loop : tie.InvT-loop
 Inv-loop job place₀ place = Unit
