@@ -1,7 +1,6 @@
 // What every command on an image begins with: the image, a reset, and the key where one is given.
 use crate::ended::Ended;
 use crate::files;
-use crate::print;
 use crate::refusals;
 use crate::usage;
 use crate::words;

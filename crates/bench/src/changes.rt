@@ -9,12 +9,10 @@ use row::writing::pulses;
 
 fn kind_and_value(entry: Entry) {
     if entry.kind == 0 {
-        print::text(b"ECC   ");
-        print::value(entry.value);
+        print::value_after(b"ECC   ", entry.value);
         return;
     }
-    print::text(b"raw   ");
-    print::bits(entry.value);
+    print::bits_after(b"raw   ", entry.value);
 }
 
 // Which polarity an ECC entry takes, and how much of a cut entry is left to burn.
@@ -26,8 +24,7 @@ fn remark(entry: Entry, old: u32, new: u32) {
         }
     }
     if written.row != new {
-        print::text(b", cut off with ");
-        print::number(pulses(new, written.row));
+        print::number_after(b", cut off with ", pulses(new, written.row));
         print::text(b" to go");
     }
 }
@@ -35,15 +32,13 @@ fn remark(entry: Entry, old: u32, new: u32) {
 // "0x0c0  0x000000 -> 0x230001  +4      ECC   0x0001"
 fn change(entry: Entry, old: u32, new: u32) {
     print::row(entry.row);
-    print::text(b"  ");
-    print::bits(old);
-    print::text(b" -> ");
-    print::bits(new);
+    print::bits_after(b"  ", old);
+    print::bits_after(b" -> ", new);
     print::text(b"  +");
     print::number_left(pulses(old, new), 7);
     kind_and_value(entry);
     remark(entry, old, new);
-    print::text(b"\n");
+    print::end();
 }
 
 // A line for each entry whose row is not what it was.

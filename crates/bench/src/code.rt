@@ -14,15 +14,14 @@ fn row_line(name: &[u8], row: u32) {
     print::bits(row);
     print::text(b"  ");
     print::fields(row);
-    print::text(b"\n");
+    print::end();
 }
 
 fn value_line(value: u32) {
     print::left(b"value", 10);
     print::value(value);
-    print::text(b" = ");
-    print::number(value);
-    print::text(b"\n");
+    print::number_after(b" = ", value);
+    print::end();
 }
 
 // The code, and the titles of the fields that the rows below it have.
@@ -31,7 +30,7 @@ fn code_line(bits: u32) {
     print::bits(bits);
     print::text(b"  ");
     print::field_titles();
-    print::text(b"\n");
+    print::end();
 }
 
 fn show(value: u16) {

@@ -21,5 +21,5 @@ pub fn last_line(ended: Ended) {
             print::text(b"file");
         }
     }
-    print::text(b"\n");
+    print::end();
 }

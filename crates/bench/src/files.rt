@@ -66,7 +66,7 @@ fn rows_of(bytes: &[u8], rows: &mut [u32; 4096]) {
 fn wrong_length(place: usize, n: usize) {
     said(place, b"an image has 16384 bytes, and this file ");
     print::bytes(n);
-    print::text(b"\n");
+    print::end();
 }
 
 // Reads an image. False where there is none.

@@ -18,8 +18,7 @@ use row::coding::plain;
 
 fn of_entry(job: &[u8], place: u32) {
     let entry = entry_at(job, place);
-    print::text(b", entry ");
-    print::number(place);
+    print::number_after(b", entry ", place);
     of_row(entry.row);
 }
 
@@ -80,24 +79,21 @@ fn malformed(job: &[u8]) {
 
 // The levels that a write of the row goes by.
 fn levels(state: State, row: u32) {
-    print::text(b"   its page has Secure level ");
-    print::number(caller_level(state, 0, row));
-    print::text(b" and key level ");
-    print::number(row_key_level(state, row));
+    print::number_after(
+        b"   its page has Secure level ",
+        caller_level(state, 0, row),
+    );
+    print::number_after(b" and key level ", row_key_level(state, row));
     print::line(b", and a write needs both at 0");
 }
 
 // The bits that the row holds already, and the two rows that would hold the value.
 fn clash(old: u32, value: u16) {
-    print::text(b"   it holds ");
-    print::bits(old);
-    print::text(b", and ");
-    print::value(value as u32);
-    print::text(b" is ");
-    print::bits(plain(value));
-    print::text(b" or ");
-    print::bits(inverted(value));
-    print::text(b"\n");
+    print::bits_after(b"   it holds ", old);
+    print::value_after(b", and ", value as u32);
+    print::bits_after(b" is ", plain(value));
+    print::bits_after(b" or ", inverted(value));
+    print::end();
 }
 
 fn against(rows: &[u32], state: State, number: u32, entry: Entry) {
@@ -128,7 +124,7 @@ pub fn lines(rows: &[u32], state: State, job: &[u8], answer: Answer) {
     let place = answer.place;
     number_and_words(number);
     about(job, number, place);
-    print::text(b"\n");
+    print::end();
     against(rows, state, number, entry_at(job, place));
     print::line(b"no row changes");
 }

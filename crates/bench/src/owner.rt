@@ -15,14 +15,13 @@ fn page_line(row: u32)
     print::number(page);
     print::text(b", rows ");
     print::rows(page * 64, page * 64 + 63);
-    print::text(b"\n");
+    print::end();
 }
 
 // A lock row belongs to the page that it locks.
 fn lock_row(row: u32) {
     let owner = Page::owner(row);
-    print::text(b"page ");
-    print::number(owner.number as u32);
+    print::number_after(b"page ", owner.number as u32);
     if row % 2 == 0 {
         print::line(b", the low row of its lock word");
     } else {
@@ -38,8 +37,7 @@ fn key_row(row: u32)
     if row < 0xf78 {
         let past = row - 0xf48;
         print::number(past / 8 + 1);
-        print::text(b", row ");
-        print::number(past % 8);
+        print::number_after(b", row ", past % 8);
         print::line(b" of its 8");
         return;
     }
@@ -62,37 +60,31 @@ fn owner_line(row: u32) {
         }
     }
     let owner = Page::owner(row);
-    print::text(b"page ");
-    print::number(owner.number as u32);
-    print::text(b"\n");
+    print::number_after(b"page ", owner.number as u32);
+    print::end();
 }
 
-fn may_line(name: &[u8], reads: bool, writes: bool) {
-    print::left(name, 12);
-    if writes {
-        print::line(b"may read and write");
-        return;
+// What a caller may do with a row: 0 nothing, 1 read, 2 read and write. A row of a valid key answers nobody.
+pub fn allowed(state: State, caller: u32, row: u32) -> u32 {
+    if hidden(state, row) {
+        return 0;
     }
-    if reads {
-        print::line(b"may read");
-        return;
+    if may_write(state, caller, row) {
+        return 2;
     }
-    print::line(b"may neither read nor write");
+    if may_read(state, caller, row) {
+        return 1;
+    }
+    0
 }
 
-// Who may use the row. A row of a valid key answers nobody.
-fn may_lines(state: State, row: u32) {
-    let shows = !hidden(state, row);
-    may_line(
-        b"Secure",
-        shows && may_read(state, 0, row),
-        shows && may_write(state, 0, row),
-    );
-    may_line(
-        b"Non-secure",
-        shows && may_read(state, 1, row),
-        shows && may_write(state, 1, row),
-    );
+fn may_line(caller: &[u8], allowed: u32) {
+    print::left(caller, 12);
+    match allowed {
+        0 => print::line(b"may neither read nor write"),
+        1 => print::line(b"may read"),
+        _ => print::line(b"may read and write"),
+    }
 }
 
 pub fn lines(state: State, row: u32)
@@ -100,5 +92,6 @@ pub fn lines(state: State, row: u32)
 {
     page_line(row);
     owner_line(row);
-    may_lines(state, row);
+    may_line(b"Secure", allowed(state, 0, row));
+    may_line(b"Non-secure", allowed(state, 1, row));
 }

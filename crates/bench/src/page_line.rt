@@ -1,9 +1,8 @@
 // What the screen of the pages says of one page, on a line of its own (document 01, "Locks", "Keys", "Permission").
 ghost use Prim.Native.Nat.{_<_};
+use crate::owner::allowed;
 use crate::print;
 use chip::pages::Page;
-use chip::permission::may_read;
-use chip::permission::may_write;
 use chip::state::State;
 use chip::state::counted_index;
 use chip::state::counted_level;
@@ -40,17 +39,10 @@ fn burnt(rows: &[u32], page: u32) -> u32
 fn may(state: State, caller: u32, page: u32) -> u32
     requires { ⌜ page < 64 ⌝ }
 {
-    let first = page * 64;
-    if 0xf80 <= first {
+    if 62 <= page {
         return 3;
     }
-    if may_write(state, caller, first) {
-        return 2;
-    }
-    if may_read(state, caller, first) {
-        return 1;
-    }
-    0
+    allowed(state, caller, page * 64)
 }
 
 pub fn line_of(rows: &[u32], state: State, number: u32) -> Line
@@ -136,5 +128,5 @@ pub fn write(page: u32, line: Line)
     by(line.by_secure);
     print::text(b"  ");
     by(line.by_nonsecure);
-    print::text(b"\n");
+    print::end();
 }

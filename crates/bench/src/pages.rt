@@ -35,9 +35,8 @@ fn write_folded(folded: Folded) {
         print::text(b"-");
         print::number_left(until, 2);
     }
-    print::text(b"  as page ");
-    print::number(folded.page);
-    print::text(b"\n");
+    print::number_after(b"  as page ", folded.page);
+    print::end();
 }
 
 // The line of a page: folded into the one before it where the two say the same.
@@ -75,6 +74,15 @@ fn lines(rows: &[u32], state: State) {
     write_folded(folded);
 }
 
+fn key_words(whole: bool, matching: bool) {
+    if !whole {
+        print::text(b" It is damaged: none matches it.");
+    }
+    if matching {
+        print::text(b" It is the key entered.");
+    }
+}
+
 // A valid key: its rows answer nobody.
 fn key_line(state: State, at: usize)
     requires { ⌜ at < 6 ⌝ }
@@ -85,18 +93,12 @@ fn key_line(state: State, at: usize)
     }
     let k = at as u32 + 1;
     let first = 0xf40 + 8 * k;
-    print::text(b"Key ");
-    print::number(k);
+    print::number_after(b"Key ", k);
     print::text(b", rows ");
     print::rows(first, first + 7);
-    print::text(b", is valid: it answers nobody");
-    if !key.whole {
-        print::text(b", and is damaged: none matches it");
-    }
-    if matches(state, k) {
-        print::text(b". It is the key entered");
-    }
-    print::text(b".\n");
+    print::text(b", is valid: it answers nobody.");
+    key_words(key.whole, matches(state, k));
+    print::end();
 }
 
 fn key_lines(state: State) {
@@ -117,7 +119,7 @@ fn any_matches(state: State) -> bool {
 fn show(rows: &[u32; 4096], state: State, entered: bool) {
     titles();
     lines(rows, state);
-    print::text(b"\n");
+    print::end();
     print::line(b"S is Secure, N Non-secure. Level 0 reads and writes, 1 reads, 2 does neither.");
     print::line(b"* A lock row is always read, and is written as the page that it locks allows.");
     key_lines(state);

@@ -6,9 +6,13 @@ pub fn text(words: &[u8]) {
     io::write_all(STDOUT_FILENO, words);
 }
 
+pub fn end() {
+    text(b"\n");
+}
+
 pub fn line(words: &[u8]) {
     text(words);
-    text(b"\n");
+    end();
 }
 
 pub fn number(n: u32) {
@@ -90,6 +94,22 @@ pub fn value(n: u32) {
 // The 24 bits of a row.
 pub fn bits(n: u32) {
     hexadecimal(n, 6);
+}
+
+// The same, after words that lead to it.
+pub fn number_after(words: &[u8], n: u32) {
+    text(words);
+    number(n);
+}
+
+pub fn value_after(words: &[u8], n: u32) {
+    text(words);
+    value(n);
+}
+
+pub fn bits_after(words: &[u8], n: u32) {
+    text(words);
+    bits(n);
 }
 
 // The lowest bits of a number, the highest of them first.

@@ -37,8 +37,7 @@ fn way_words(way: Way) {
         Way::Ecc => print::text(b" with ECC"),
         Way::Raw => print::text(b" as it is"),
         Way::Vote(count) => {
-            print::text(b", a vote of ");
-            print::number(count);
+            print::number_after(b", a vote of ", count);
             print::text(b" rows");
         }
     }
@@ -62,9 +61,8 @@ fn condition_line(condition: Condition) {
             print::line(b"clean");
         }
         Condition::Repaired(place) => {
-            print::text(b"repaired bit ");
-            print::number(place);
-            print::text(b"\n");
+            print::number_after(b"repaired bit ", place);
+            print::end();
         }
     }
 }
@@ -85,9 +83,8 @@ fn value_lines(answer: Answer, way: Way) {
             print::bits(value);
         }
     }
-    print::text(b" = ");
-    print::number(value);
-    print::text(b"\n");
+    print::number_after(b" = ", value);
+    print::end();
     if let Way::Ecc = way {
         condition_line(condition);
     }
@@ -101,13 +98,13 @@ fn bits_line(rows: &[u32], state: State, caller: u32, row: u32) {
     print::text(b"  ");
     if answer.number != 0 {
         refusals::number_and_words(answer.number);
-        print::text(b"\n");
+        print::end();
         return;
     }
     print::bits(answer.value);
     print::text(b"  ");
     print::fields(answer.value);
-    print::text(b"\n");
+    print::end();
 }
 
 // How many rows are read: at most eight, and one where a vote of another count is asked for.
@@ -129,14 +126,17 @@ fn span(way: Way) -> u32
     }
 }
 
+fn bits_titles() {
+    print::left(b"bits", 12);
+    print::text(b"row    all       ");
+    print::field_titles();
+    print::end();
+}
+
 // The bits of each row that is read, as far as there are rows.
 fn bits_lines(rows: &[u32], state: State, caller: u32, row: u32, count: u32)
     requires { ⌜ (row ≤ 4095) × (count ≤ 8) ⌝ }
 {
-    print::left(b"bits", 12);
-    print::text(b"row    all       ");
-    print::field_titles();
-    print::text(b"\n");
     for more in 0..count {
         if row + more <= 4095 {
             bits_line(rows, state, caller, row + more);
@@ -155,6 +155,7 @@ fn show(rows: &[u32; 4096], state: State, caller: u32, row: u32, way: Way) -> En
     if number == 0 {
         value_lines(answer, way);
     }
+    bits_titles();
     bits_lines(rows, state, caller, row, span(way));
     owner::lines(state, row);
     Ended::Answered(number)

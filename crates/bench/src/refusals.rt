@@ -46,7 +46,7 @@ pub fn row(number: u32, row: u32) {
     if number != 0 {
         of_row(row);
     }
-    print::text(b"\n");
+    print::end();
 }
 
 // The first row whose entry is above 24 bits.

@@ -24,8 +24,7 @@ const NO_LIMIT: u32 = 12288;
 // "2 of 3 entries stand, 8 pulses, limit 8"
 fn summary(answer: Answer, count: u32, words: Words, limit: u32) {
     print::number(answer.place);
-    print::text(b" of ");
-    print::number(count);
+    print::number_after(b" of ", count);
     print::text(b" entries stand, ");
     print::counted(answer.pulses, b"pulse");
     limit_words(words, limit);
@@ -36,9 +35,8 @@ fn limit_words(words: Words, limit: u32) {
         print::line(b", no limit");
         return;
     }
-    print::text(b", limit ");
-    print::number(limit);
-    print::text(b"\n");
+    print::number_after(b", limit ", limit);
+    print::end();
 }
 
 fn show(before: &[u32; 4096], after: &[u32; 4096], job: &[u8], answer: Answer) {
@@ -50,7 +48,7 @@ fn show(before: &[u32; 4096], after: &[u32; 4096], job: &[u8], answer: Answer) {
         print::line(b"row    old         new       pulses  kind  value");
         changes::lines(before, after, job);
     }
-    print::text(b"\n");
+    print::end();
 }
 
 // Saves the image as the job leaves it, where that is asked for.
@@ -65,7 +63,7 @@ fn saved_line(words: Words) {
     if words.save != 0 {
         print::text(b"saved as ");
         words::print_word(words.save);
-        print::text(b"\n");
+        print::end();
     }
 }
 

@@ -19,20 +19,29 @@ fn bytes_of(rows: &[u32], bytes: &mut [u8; 16384]) {
     }
 }
 
+// The error of the call that has just failed, which is never 0: a write that takes nothing sets none.
+fn failure() -> i32 {
+    let error = os::errno();
+    if error == 0 {
+        return libc::EIO;
+    }
+    error
+}
+
 // Gives a new file its bytes, and sees that they have reached the disk. The system's error, or 0.
 fn fill(fd: i32, bytes: &[u8]) -> i32 {
     if !io::write_all(fd, bytes) {
-        let error = os::errno();
+        let error = failure();
         libc::close(fd);
         return error;
     }
     if libc::fsync(fd) < 0 {
-        let error = os::errno();
+        let error = failure();
         libc::close(fd);
         return error;
     }
     if libc::close(fd) < 0 {
-        return os::errno();
+        return failure();
     }
     0
 }
@@ -41,7 +50,7 @@ fn fill(fd: i32, bytes: &[u8]) -> i32 {
 fn write_beside(path: &[u8], temporary: &[u8], bytes: &[u8]) -> i32 {
     let fd = os::create(temporary);
     if fd < 0 {
-        return os::errno();
+        return failure();
     }
     let error = fill(fd, bytes);
     if error != 0 {
@@ -49,7 +58,7 @@ fn write_beside(path: &[u8], temporary: &[u8], bytes: &[u8]) -> i32 {
         return error;
     }
     if os::rename(temporary, path) < 0 {
-        let error = os::errno();
+        let error = failure();
         os::unlink(temporary);
         return error;
     }

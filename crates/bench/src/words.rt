@@ -13,12 +13,13 @@ pub struct Words {
     pub vote: usize,
     pub raw: usize,
     pub nonsecure: usize,
-    // The option whose value comes next: one of the numbers below.
+    // The option whose value comes next, as one of the numbers below.
     pub awaited: u32,
     // The first word that fits nowhere.
     pub wrong: usize,
 }
 
+// What can be awaited.
 pub const NOTHING: u32 = 0;
 
 const KEY: u32 = 1;

@@ -10,27 +10,6 @@ Inv-loop rows state caller row count more₀ more = Unit
 abbrev μ-loop : tie.MeasureT-loop
 μ-loop rows state caller row count more₀ more = count - more
 
-slice-aggregate-left : tie.Need-slice-aggregate-left Inv-loop μ-loop
-slice-aggregate-left c = search needs
-
-left-requires : tie.Need-left-requires Inv-loop μ-loop
-left-requires c κs = search needs
-
-slice-aggregate-text : tie.Need-slice-aggregate-text Inv-loop μ-loop
-slice-aggregate-text c = search needs
-
-text-requires : tie.Need-text-requires Inv-loop μ-loop
-text-requires c κs = search needs
-
-field-titles-requires : tie.Need-field-titles-requires Inv-loop μ-loop
-field-titles-requires c κs = search needs
-
-slice-aggregate-text-2 : tie.Need-slice-aggregate-text-2 Inv-loop μ-loop
-slice-aggregate-text-2 c = search needs
-
-text-requires-2 : tie.Need-text-requires-2 Inv-loop μ-loop
-text-requires-2 c κs = search needs
-
 loop-holds : tie.Need-loop-holds Inv-loop μ-loop
 loop-holds c = search needs
 
@@ -61,13 +40,6 @@ bits-lines-spec =
     (tie.spec
     Inv-loop
     μ-loop
-    slice-aggregate-left
-    left-requires
-    slice-aggregate-text
-    text-requires
-    field-titles-requires
-    slice-aggregate-text-2
-    text-requires-2
     loop-holds
     add-if1
     add-bits-line
