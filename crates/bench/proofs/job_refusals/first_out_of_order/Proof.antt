@@ -1,0 +1,50 @@
+-- `bench::job_refusals::first_out_of_order` is safe and ends: each turn asks about one entry more. Assumes nothing.
+use Prim.Native.Nat.{_-_}
+use borrow.Author.Needs.{needs}
+use Rattle.bench.proofs.job_refusals.first_out_of_order.Statement.{statement}
+use Rattle.bench.proofs.job_refusals.first_out_of_order.Tie as tie
+
+abbrev Inv-loop : tie.InvT-loop
+Inv-loop job place₀ place = Unit
+
+abbrev μ-loop : tie.MeasureT-loop
+μ-loop job place₀ place = 512 - place
+
+loop-holds : tie.Need-loop-holds Inv-loop μ-loop
+loop-holds c = search needs
+
+add-out-of-order : tie.Need-add-out-of-order Inv-loop μ-loop
+add-out-of-order c = search needs
+
+out-of-order-requires : tie.Need-out-of-order-requires Inv-loop μ-loop
+out-of-order-requires c κs = search needs
+
+returns : tie.Need-returns Inv-loop μ-loop
+returns c = search needs
+
+add-place : tie.Need-add-place Inv-loop μ-loop
+add-place c = search needs
+
+loop-less : tie.Need-loop-less Inv-loop μ-loop
+loop-less c = search needs
+
+loop-again : tie.Need-loop-again Inv-loop μ-loop
+loop-again c = search needs
+
+returns-2 : tie.Need-returns-2 Inv-loop μ-loop
+returns-2 c = search needs
+
+pub first-out-of-order-spec : {M : Type 1} → statement M
+first-out-of-order-spec =
+    tie.close
+    (tie.spec
+    Inv-loop
+    μ-loop
+    loop-holds
+    add-out-of-order
+    out-of-order-requires
+    returns
+    add-place
+    loop-less
+    loop-again
+    returns-2)

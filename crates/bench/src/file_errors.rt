@@ -1,0 +1,54 @@
+// One line on a file that is not what it must be, or that the system refuses.
+use crate::print;
+use crate::words;
+
+fn other_reason(error: i32) {
+    if error == libc::ENOTDIR {
+        print::line(b"a part of its path is no folder");
+        return;
+    }
+    if error == libc::EEXIST {
+        print::line(b"its .part file is in the way, from a run that was stopped");
+        return;
+    }
+    if error == libc::ENOSPC {
+        print::line(b"the disk is full");
+        return;
+    }
+    print::line(b"the system refuses it");
+}
+
+// What the number of a system's error means.
+fn reason(error: i32) {
+    if error == libc::ENOENT {
+        print::line(b"no such file or folder");
+        return;
+    }
+    if error == libc::EACCES {
+        print::line(b"no permission");
+        return;
+    }
+    if error == libc::EISDIR {
+        print::line(b"it is a folder");
+        return;
+    }
+    other_reason(error);
+}
+
+// The name of the file at a place, and what is wrong with it.
+pub fn said(place: usize, what: &[u8]) {
+    print::text(b"otp: '");
+    words::print_word(place);
+    print::text(b"': ");
+    print::text(what);
+}
+
+pub fn unread(place: usize, error: i32) {
+    said(place, b"cannot be read: ");
+    reason(error);
+}
+
+pub fn unwritten(place: usize, error: i32) {
+    said(place, b"cannot be written: ");
+    reason(error);
+}

@@ -1,0 +1,108 @@
+// Images and jobs as files. Whatever goes wrong is said in one line.
+ghost use Prim.Native.Nat.{_<_};
+use crate::file_errors::said;
+use crate::file_errors::unread;
+use crate::print;
+
+// How many bytes a file has, or that it has more than there is room for, or that it was not read.
+enum Loaded {
+    Bytes(usize),
+    More,
+    Nothing,
+}
+
+// Reads a file from its start. One byte more is asked for, to tell the end of the file from a failure and from a file that is longer.
+fn load(place: usize, bytes: &mut [u8]) -> Loaded {
+    let mut path = io::buffer();
+    let n = os::arg(place, &mut path);
+    let fd = os::open_read(&path[..n]);
+    if fd < 0 {
+        unread(place, os::errno());
+        return Loaded::Nothing;
+    }
+    let got = io::read_full(fd, bytes);
+    let mut next = [0u8; 1];
+    let more = libc::read(fd, &mut next);
+    let error = os::errno();
+    libc::close(fd);
+    if more < 0 {
+        unread(place, error);
+        return Loaded::Nothing;
+    }
+    if 0 < more {
+        return Loaded::More;
+    }
+    Loaded::Bytes(got)
+}
+
+fn wide(byte: u8) -> u32 {
+    byte as u32
+}
+
+// The byte at a place, and 0 past the end.
+fn byte_at(bytes: &[u8], at: usize) -> u32 {
+    if bytes.len() <= at {
+        return 0;
+    }
+    wide(bytes[at])
+}
+
+// The number whose four bytes begin at a place, low byte first.
+pub fn four_at(bytes: &[u8], at: usize) -> u32
+    requires { ⌜ at < 65536 ⌝ }
+{
+    byte_at(bytes, at)
+        | (byte_at(bytes, at + 1) << 8)
+        | (byte_at(bytes, at + 2) << 16)
+        | (byte_at(bytes, at + 3) << 24)
+}
+
+fn rows_of(bytes: &[u8], rows: &mut [u32; 4096]) {
+    for row in 0..4096 {
+        rows[row] = four_at(bytes, 4 * row);
+    }
+}
+
+fn wrong_length(place: usize, n: usize) {
+    said(place, b"an image has 16384 bytes, and this file ");
+    print::bytes(n);
+    print::end();
+}
+
+// Reads an image. False where there is none.
+pub fn load_image(place: usize, rows: &mut [u32; 4096]) -> bool {
+    let mut bytes = [0u8; 16384];
+    match load(place, &mut bytes) {
+        Loaded::Bytes(n) => {
+            if n != 16384 {
+                wrong_length(place, n);
+                return false;
+            }
+            rows_of(&bytes, rows);
+            true
+        }
+        Loaded::More => {
+            said(place, b"an image has 16384 bytes, and this file more\n");
+            false
+        }
+        Loaded::Nothing => false,
+    }
+}
+
+// The length of a job, or that there is none.
+pub enum Length {
+    Is(usize),
+    Not,
+}
+
+// Reads a job.
+pub fn load_job(place: usize, job: &mut [u8; 3079]) -> Length {
+    match load(place, job) {
+        Loaded::Bytes(n) => Length::Is(n),
+        Loaded::More => {
+            said(place, b"a job has at most 3079 bytes, and this file more\n");
+            Length::Not
+        }
+        Loaded::Nothing => Length::Not,
+    }
+}

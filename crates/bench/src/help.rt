@@ -1,0 +1,41 @@
+// The page that `otp help` shows.
+use crate::ended::Ended;
+use crate::print;
+
+fn commands() {
+    print::line(b"./otp rehearse IMAGE JOB [LIMIT] [--key HEX32] [--save OUT]");
+    print::line(
+        b"    Judges the job, burns it into a copy of the image, and shows what changes, row by row.",
+    );
+    print::line(
+        b"    LIMIT stops it after so many pulses. --save writes the image as the job leaves it.",
+    );
+    print::line(b"./otp read IMAGE ROW [--raw | --vote 3 | --vote 8] [--non-secure] [--key HEX32]");
+    print::line(
+        b"    Reads a row with ECC, as it is, or by a vote of it and the rows that follow it.",
+    );
+    print::line(b"./otp pages IMAGE [--key HEX32]");
+    print::line(
+        b"    The 64 pages: levels, key indexes, no-key state, bits burnt, who may read and write.",
+    );
+    print::line(b"./otp code VALUE");
+    print::line(b"    The code of a value, and the two rows that hold it.");
+    print::line(b"./otp help");
+    print::line(b"    This page.");
+}
+
+pub fn run() -> Ended {
+    commands();
+    print::line(b"");
+    print::line(
+        b"IMAGE   16,384 bytes: 4,096 rows, row 0 first, each a 32-bit number, low byte first",
+    );
+    print::line(b"JOB     the bytes of a job, at most 3,079");
+    print::line(b"HEX32   a key: its 16 bytes as 32 hexadecimal digits, byte 0 first");
+    print::line(b"ROW, VALUE and LIMIT are decimal, or hexadecimal after 0x.");
+    print::line(b"Everything happens after a reset of the image; the key is entered by Secure.");
+    print::line(
+        b"The exit status is 0 where the answer is 0, 1 where it is a refusal, 2 for a wrong word or file.",
+    );
+    Ended::Answered(0)
+}

@@ -1,0 +1,46 @@
+// The bench crew's command: rehearse a job on an image of a chip, read a row, show the pages, show the code of a value.
+// The script ./otp at the root runs it, and turns the last line that it writes into an exit status.
+mod begin;
+mod changes;
+mod code;
+mod ended;
+mod file_errors;
+mod files;
+mod help;
+mod job_refusals;
+mod numbers;
+mod owner;
+mod page_line;
+mod pages;
+mod print;
+mod read;
+mod refusals;
+mod rehearse;
+mod saving;
+mod usage;
+mod words;
+
+use ended::Ended;
+
+fn command() -> Ended {
+    if words::is(1, b"rehearse") {
+        return rehearse::run();
+    }
+    if words::is(1, b"read") {
+        return read::run();
+    }
+    if words::is(1, b"pages") {
+        return pages::run();
+    }
+    if words::is(1, b"code") {
+        return code::run();
+    }
+    if words::is(1, b"help") || words::is(1, b"--help") {
+        return help::run();
+    }
+    usage::no_command()
+}
+
+fn main() {
+    ended::last_line(command());
+}

@@ -1,0 +1,97 @@
+// Whose row a row is: its page, the lock word or key that it belongs to, and who may use it (document 01, "Locks", "Keys", "Permission").
+ghost use Prim.Native.Nat.{_≤_, _<_};
+use crate::print;
+use chip::keys::hidden;
+use chip::pages::Page;
+use chip::permission::may_read;
+use chip::permission::may_write;
+use chip::state::State;
+
+fn page_line(row: u32)
+    requires { ⌜ row ≤ 4095 ⌝ }
+{
+    let page = row / 64;
+    print::left(b"page", 12);
+    print::number(page);
+    print::text(b", rows ");
+    print::rows(page * 64, page * 64 + 63);
+    print::end();
+}
+
+// A lock row belongs to the page that it locks.
+fn lock_row(row: u32) {
+    let owner = Page::owner(row);
+    print::number_after(b"page ", owner.number as u32);
+    if row % 2 == 0 {
+        print::line(b", the low row of its lock word");
+    } else {
+        print::line(b", the high row of its lock word");
+    }
+}
+
+// The rows from 0xf48 to 0xf7e hold the keys and, past 0xf78, their valid flags.
+fn key_row(row: u32)
+    requires { ⌜ (0xf48 ≤ row) × (row < 0xf7f) ⌝ }
+{
+    print::text(b"key ");
+    if row < 0xf78 {
+        let past = row - 0xf48;
+        print::number(past / 8 + 1);
+        print::number_after(b", row ", past % 8);
+        print::line(b" of its 8");
+        return;
+    }
+    print::number(row - 0xf78);
+    print::line(b", its valid flag");
+}
+
+fn owner_line(row: u32) {
+    print::left(b"owner", 12);
+    if 0xf80 <= row {
+        lock_row(row);
+        return;
+    }
+    if 0xf48 <= row {
+        if row < 0xf7f {
+            if row != 0xf78 {
+                key_row(row);
+                return;
+            }
+        }
+    }
+    let owner = Page::owner(row);
+    print::number_after(b"page ", owner.number as u32);
+    print::end();
+}
+
+// What a caller may do with a row: 0 nothing, 1 read, 2 read and write. A row of a valid key answers nobody.
+pub fn allowed(state: State, caller: u32, row: u32) -> u32 {
+    if hidden(state, row) {
+        return 0;
+    }
+    if may_write(state, caller, row) {
+        return 2;
+    }
+    if may_read(state, caller, row) {
+        return 1;
+    }
+    0
+}
+
+fn may_line(caller: &[u8], allowed: u32) {
+    print::left(caller, 12);
+    match allowed {
+        0 => print::line(b"may neither read nor write"),
+        1 => print::line(b"may read"),
+        _ => print::line(b"may read and write"),
+    }
+}
+
+pub fn lines(state: State, row: u32)
+    requires { ⌜ row ≤ 4095 ⌝ }
+{
+    page_line(row);
+    owner_line(row);
+    may_line(b"Secure", allowed(state, 0, row));
+    may_line(b"Non-secure", allowed(state, 1, row));
+}

@@ -1,0 +1,132 @@
+// What the screen of the pages says of one page, on a line of its own (document 01, "Locks", "Keys", "Permission").
+ghost use Prim.Native.Nat.{_<_};
+use crate::owner::allowed;
+use crate::print;
+use chip::pages::Page;
+use chip::state::State;
+use chip::state::counted_index;
+use chip::state::counted_level;
+use chip::state::counted_no_key;
+use job::rows::entry_of;
+use row::writing::pulses;
+
+// What the screen says of a page. Of each caller: 0 may do nothing, 1 read, 2 read and write, 3 read, and write as each row's own page allows.
+pub struct Line {
+    pub secure: u32,
+    pub nonsecure: u32,
+    pub writekey: u32,
+    pub readkey: u32,
+    pub nokey: bool,
+    pub burnt: u32,
+    pub by_secure: u32,
+    pub by_nonsecure: u32,
+}
+
+// The bits that are set in a page's 64 rows.
+fn burnt(rows: &[u32], page: u32) -> u32
+    requires { ⌜ page < 64 ⌝ }
+{
+    let mut sum: u32 = 0;
+    for more in 0..64 {
+        // A row has 24 bits, so neither remainder takes anything away.
+        let bits = pulses(0, entry_of(rows, page * 64 + more));
+        sum = sum % 65536 + bits % 32;
+    }
+    sum
+}
+
+// What a caller may do with the rows of a page. The lock rows, from page 62 on, go by the pages that they lock.
+fn may(state: State, caller: u32, page: u32) -> u32
+    requires { ⌜ page < 64 ⌝ }
+{
+    if 62 <= page {
+        return 3;
+    }
+    allowed(state, caller, page * 64)
+}
+
+pub fn line_of(rows: &[u32], state: State, number: u32) -> Line
+    requires { ⌜ number < 64 ⌝ }
+{
+    let page = Page {
+        number: number as u8,
+    };
+    let secure = state.secure;
+    let nonsecure = state.nonsecure;
+    let writekeys = state.writekey;
+    let readkeys = state.readkey;
+    let nokeys = state.nokey;
+    Line {
+        secure: counted_level(secure, page),
+        nonsecure: counted_level(nonsecure, page),
+        writekey: counted_index(writekeys, page),
+        readkey: counted_index(readkeys, page),
+        nokey: counted_no_key(nokeys, page),
+        burnt: burnt(rows, number),
+        by_secure: may(state, 0, number),
+        by_nonsecure: may(state, 1, number),
+    }
+}
+
+pub fn same(a: Line, b: Line) -> bool {
+    a.secure == b.secure
+        && a.nonsecure == b.nonsecure
+        && a.writekey == b.writekey
+        && a.readkey == b.readkey
+        && a.nokey == b.nokey
+        && a.burnt == b.burnt
+        && a.by_secure == b.by_secure
+        && a.by_nonsecure == b.by_nonsecure
+}
+
+// A key index, or a dash where none is registered.
+fn index(n: u32) {
+    if n == 0 {
+        print::text(b"-     ");
+        return;
+    }
+    print::number_left(n, 6);
+}
+
+fn no_key(state: bool) {
+    if state {
+        print::text(b"1");
+    } else {
+        print::text(b"0");
+    }
+}
+
+fn by(may: u32) {
+    match may {
+        0 => print::text(b"-/-"),
+        1 => print::text(b"r/-"),
+        2 => print::text(b"r/w"),
+        _ => print::text(b"r/*"),
+    }
+}
+
+pub fn titles() {
+    print::line(b"                    level   key index   no-key          may");
+    print::line(b" page  rows         S  N    write read  state   burnt   S    N");
+}
+
+// One page on a line of its own.
+pub fn write(page: u32, line: Line)
+    requires { ⌜ page < 64 ⌝ }
+{
+    print::right(page, 5);
+    print::text(b"  ");
+    print::rows(page * 64, page * 64 + 63);
+    print::text(b"  ");
+    print::number_left(line.secure, 3);
+    print::number_left(line.nonsecure, 5);
+    index(line.writekey);
+    index(line.readkey);
+    no_key(line.nokey);
+    print::right(line.burnt, 12);
+    print::text(b"   ");
+    by(line.by_secure);
+    print::text(b"  ");
+    by(line.by_nonsecure);
+    print::end();
+}

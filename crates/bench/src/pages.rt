@@ -1,0 +1,154 @@
+// `otp pages`: the 64 pages on one screen of 80 columns, and the valid keys.
+ghost use Prim.Native.Nat.{_<_};
+use crate::begin::begin;
+use crate::ended::Ended;
+use crate::page_line::Line;
+use crate::page_line::line_of;
+use crate::page_line::same;
+use crate::page_line::titles;
+use crate::page_line::write;
+use crate::print;
+use crate::usage;
+use crate::usage::Takes;
+use crate::words;
+use chip::keys::matches;
+use chip::state::State;
+
+// The line that was written last, and the pages after it that are the same.
+struct Folded {
+    line: Line,
+    page: u32,
+    until: u32,
+}
+
+// " 4-60  as page 3"
+fn write_folded(folded: Folded) {
+    let until = folded.until;
+    if until <= folded.page {
+        return;
+    }
+    let from = folded.page + 1;
+    if from == until {
+        print::right(from, 5);
+    } else {
+        print::right(from, 2);
+        print::text(b"-");
+        print::number_left(until, 2);
+    }
+    print::number_after(b"  as page ", folded.page);
+    print::end();
+}
+
+// The line of a page: folded into the one before it where the two say the same.
+fn with(folded: Folded, page: u32, line: Line) -> Folded
+    requires { ⌜ page < 64 ⌝ }
+{
+    let own = folded.line;
+    if same(own, line) {
+        return Folded {
+            line: own,
+            page: folded.page,
+            until: page,
+        };
+    }
+    write_folded(folded);
+    write(page, line);
+    Folded {
+        line,
+        page,
+        until: page,
+    }
+}
+
+fn lines(rows: &[u32], state: State) {
+    let first = line_of(rows, state, 0);
+    write(0, first);
+    let mut folded = Folded {
+        line: first,
+        page: 0,
+        until: 0,
+    };
+    for page in 1..64 {
+        folded = with(folded, page, line_of(rows, state, page));
+    }
+    write_folded(folded);
+}
+
+fn key_words(whole: bool, matching: bool) {
+    if !whole {
+        print::text(b" It is damaged: none matches it.");
+    }
+    if matching {
+        print::text(b" It is the key entered.");
+    }
+}
+
+// A valid key: its rows answer nobody.
+fn key_line(state: State, at: usize)
+    requires { ⌜ at < 6 ⌝ }
+{
+    let key = state.keys[at];
+    if !key.valid {
+        return;
+    }
+    let k = at as u32 + 1;
+    let first = 0xf40 + 8 * k;
+    print::number_after(b"Key ", k);
+    print::text(b", rows ");
+    print::rows(first, first + 7);
+    print::text(b", is valid: it answers nobody.");
+    key_words(key.whole, matches(state, k));
+    print::end();
+}
+
+fn key_lines(state: State) {
+    for at in 0..6 {
+        key_line(state, at);
+    }
+}
+
+fn any_matches(state: State) -> bool {
+    matches(state, 1)
+        || matches(state, 2)
+        || matches(state, 3)
+        || matches(state, 4)
+        || matches(state, 5)
+        || matches(state, 6)
+}
+
+fn show(rows: &[u32; 4096], state: State, entered: bool) {
+    titles();
+    lines(rows, state);
+    print::end();
+    print::line(b"S is Secure, N Non-secure. Level 0 reads and writes, 1 reads, 2 does neither.");
+    print::line(b"* A lock row is always read, and is written as the page that it locks allows.");
+    key_lines(state);
+    if entered {
+        if !any_matches(state) {
+            print::line(b"The key entered is none that is valid.");
+        }
+    }
+}
+
+pub fn run() -> Ended {
+    let words = words::taken();
+    let takes = Takes {
+        least: 1,
+        most: 1,
+        key: true,
+        save: false,
+        ways: false,
+    };
+    if !usage::fit(words, takes) {
+        return Ended::Usage;
+    }
+    let mut rows = [0u32; 4096];
+    let begun = begin(words, &mut rows);
+    if !begun.ready {
+        let ended = begun.ended;
+        return ended;
+    }
+    let state = begun.state;
+    show(&rows, state, words.key != 0);
+    Ended::Answered(0)
+}

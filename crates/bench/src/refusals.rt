@@ -1,0 +1,66 @@
+// The answers as number and words (document 01, "The numbers we answer with").
+use crate::print;
+use job::rows::entry_of;
+
+fn words_to_five(number: u32) {
+    match number {
+        0 => print::text(b"done"),
+        1 => print::text(b"the row slice hasn't 4,096 entries"),
+        2 => print::text(b"row above 4,095, or a vote group that runs past row 4,095"),
+        3 => print::text(b"an entry is above 16,777,215"),
+        4 => print::text(b"vote count neither 3 nor 8"),
+        _ => print::text(b"ECC on a row from 0xf80 up, or a vote group with any such row"),
+    }
+}
+
+fn words_from_six(number: u32) {
+    match number {
+        6 => print::text(b"a row of a latched valid key"),
+        7 => print::text(b"the permission rules don't allow it"),
+        8 => print::text(b"no value has a code within one bit"),
+        9 => print::text(b"neither polarity fits"),
+        10 => print::text(b"job bytes malformed"),
+        _ => print::text(b"job row from 0xf40 up, or not above the row before it"),
+    }
+}
+
+// "9: neither polarity fits"
+pub fn number_and_words(number: u32) {
+    print::number(number);
+    print::text(b": ");
+    if number < 6 {
+        words_to_five(number);
+        return;
+    }
+    words_from_six(number);
+}
+
+pub fn of_row(row: u32) {
+    print::text(b", row ");
+    print::row(row);
+}
+
+// An answer on one row.
+pub fn row(number: u32, row: u32) {
+    number_and_words(number);
+    if number != 0 {
+        of_row(row);
+    }
+    print::end();
+}
+
+// The first row whose entry is above 24 bits.
+fn first_too_large(rows: &[u32]) -> u32 {
+    for row in 0..4096 {
+        if 16777215 < entry_of(rows, row) {
+            return row;
+        }
+    }
+    0
+}
+
+// A refused reset: one line, with the row that has too much in it.
+pub fn image(number: u32, rows: &[u32]) {
+    let first = first_too_large(rows);
+    row(number, first);
+}

@@ -1,0 +1,108 @@
+// Saving an image: whole under its name, or not at all. It is written under a temporary name beside its own, and renamed at the end.
+use crate::file_errors::unwritten;
+
+// One of the four bytes of a row, the low one first.
+fn byte_of(row: u32, which: u32) -> u8 {
+    ((row >> (which % 4 * 8)) % 256) as u8
+}
+
+fn row_in(rows: &[u32], row: usize) -> u32 {
+    if rows.len() <= row {
+        return 0;
+    }
+    rows[row]
+}
+
+fn bytes_of(rows: &[u32], bytes: &mut [u8; 16384]) {
+    for at in 0..16384 {
+        bytes[at] = byte_of(row_in(rows, at / 4), (at % 4) as u32);
+    }
+}
+
+// The error of the call that has just failed, which is never 0: a write that takes nothing sets none.
+fn failure() -> i32 {
+    let error = os::errno();
+    if error == 0 {
+        return libc::EIO;
+    }
+    error
+}
+
+// Gives a new file its bytes, and sees that they have reached the disk. The system's error, or 0.
+fn fill(fd: i32, bytes: &[u8]) -> i32 {
+    if !io::write_all(fd, bytes) {
+        let error = failure();
+        libc::close(fd);
+        return error;
+    }
+    if libc::fsync(fd) < 0 {
+        let error = failure();
+        libc::close(fd);
+        return error;
+    }
+    if libc::close(fd) < 0 {
+        return failure();
+    }
+    0
+}
+
+// Writes the temporary file and gives it its name. Where that fails the temporary file goes. The system's error, or 0.
+fn write_beside(path: &[u8], temporary: &[u8], bytes: &[u8]) -> i32 {
+    let fd = os::create(temporary);
+    if fd < 0 {
+        return failure();
+    }
+    let error = fill(fd, bytes);
+    if error != 0 {
+        os::unlink(temporary);
+        return error;
+    }
+    if os::rename(temporary, path) < 0 {
+        let error = failure();
+        os::unlink(temporary);
+        return error;
+    }
+    0
+}
+
+// A name with '.part' after it: how long it then is, or 0 where there is no room.
+fn with_part(name: &mut [u8; 4096], n: usize) -> usize {
+    if 4090 < n {
+        return 0;
+    }
+    name[n] = b'.';
+    name[n + 1] = b'p';
+    name[n + 2] = b'a';
+    name[n + 3] = b'r';
+    name[n + 4] = b't';
+    n + 5
+}
+
+// The same, with the temporary name at the start of an array.
+fn write(path: &[u8], temporary: &[u8; 4096], length: usize, bytes: &[u8; 16384]) -> i32 {
+    let name: &[u8] = temporary;
+    if length == 0 {
+        return libc::ENAMETOOLONG;
+    }
+    if name.len() < length {
+        return libc::ENAMETOOLONG;
+    }
+    write_beside(path, &name[0..length], bytes)
+}
+
+// Saves an image under the name at a place. False where it could not, and one line has said so.
+pub fn save(place: usize, rows: &[u32; 4096]) -> bool {
+    let mut bytes = [0u8; 16384];
+    bytes_of(rows, &mut bytes);
+    let mut path = [0u8; 4096];
+    let n = os::arg(place, &mut path);
+    let mut temporary = [0u8; 4096];
+    let m = os::arg(place, &mut temporary);
+    let length = with_part(&mut temporary, m);
+    let error = write(&path[..n], &temporary, length, &bytes);
+    if error != 0 {
+        unwritten(place, error);
+        return false;
+    }
+    true
+}

@@ -1,0 +1,178 @@
+// The words that the command was given. Each is known by its place, and read again where it is needed.
+use crate::numbers;
+use crate::numbers::Number;
+use crate::print;
+
+// The places of what was given, 0 for what was not. `first` to `third` are the words that follow no option.
+pub struct Words {
+    pub first: usize,
+    pub second: usize,
+    pub third: usize,
+    pub key: usize,
+    pub save: usize,
+    pub vote: usize,
+    pub raw: usize,
+    pub nonsecure: usize,
+    // The option whose value comes next, as one of the numbers below.
+    pub awaited: u32,
+    // The first word that fits nowhere.
+    pub wrong: usize,
+}
+
+// What can be awaited.
+pub const NOTHING: u32 = 0;
+
+const KEY: u32 = 1;
+
+const SAVE: u32 = 2;
+
+const VOTE: u32 = 3;
+
+fn same(a: &[u8], b: &[u8]) -> bool {
+    if a.len() != b.len() {
+        return false;
+    }
+    for i in 0..a.len() {
+        if a[i] != b[i] {
+            return false;
+        }
+    }
+    true
+}
+
+// Whether a word is the one named, which is shorter than 16 bytes.
+pub fn is(place: usize, name: &[u8]) -> bool {
+    let mut word = [0u8; 16];
+    let n = os::arg(place, &mut word);
+    same(&word[..n], name)
+}
+
+pub fn print_word(place: usize) {
+    let mut word = io::buffer();
+    let n = os::arg(place, &mut word);
+    print::text(&word[..n]);
+}
+
+// The number that a word spells.
+pub fn number(place: usize) -> Number {
+    let mut word = [0u8; 32];
+    let n = os::arg(place, &mut word);
+    numbers::of_text(&word[..n])
+}
+
+// The key that a word spells. False where it spells none.
+pub fn key(place: usize, key: &mut [u8; 16]) -> bool {
+    let mut word = [0u8; 48];
+    let n = os::arg(place, &mut word);
+    numbers::key_of(&word[..n], key)
+}
+
+// A word that follows no option.
+fn with_plain(mut words: Words, place: usize) -> Words {
+    if words.first == 0 {
+        words.first = place;
+        return words;
+    }
+    if words.second == 0 {
+        words.second = place;
+        return words;
+    }
+    if words.third == 0 {
+        words.third = place;
+        return words;
+    }
+    words.wrong = place;
+    words
+}
+
+// The value of the option before it. An option that is given twice is wrong.
+fn with_value(mut words: Words, place: usize) -> Words {
+    let awaited = words.awaited;
+    words.awaited = NOTHING;
+    if awaited == KEY {
+        if words.key == 0 {
+            words.key = place;
+            return words;
+        }
+    }
+    if awaited == SAVE {
+        if words.save == 0 {
+            words.save = place;
+            return words;
+        }
+    }
+    if awaited == VOTE {
+        if words.vote == 0 {
+            words.vote = place;
+            return words;
+        }
+    }
+    words.wrong = place;
+    words
+}
+
+fn is_option(place: usize) -> bool {
+    let mut word = [0u8; 16];
+    os::arg(place, &mut word);
+    word[0] == b'-'
+}
+
+fn with_option(mut words: Words, place: usize) -> Words {
+    if is(place, b"--key") {
+        words.awaited = KEY;
+        return words;
+    }
+    if is(place, b"--save") {
+        words.awaited = SAVE;
+        return words;
+    }
+    if is(place, b"--vote") {
+        words.awaited = VOTE;
+        return words;
+    }
+    if is(place, b"--raw") {
+        words.raw = place;
+        return words;
+    }
+    if is(place, b"--non-secure") {
+        words.nonsecure = place;
+        return words;
+    }
+    words.wrong = place;
+    words
+}
+
+// The words with one more of them taken. Nothing is taken after a wrong one.
+fn with(words: Words, place: usize) -> Words {
+    if words.wrong != 0 {
+        return words;
+    }
+    if words.awaited != NOTHING {
+        return with_value(words, place);
+    }
+    if is_option(place) {
+        return with_option(words, place);
+    }
+    with_plain(words, place)
+}
+
+// All words after the command's name.
+pub fn taken() -> Words {
+    let mut words = Words {
+        first: 0,
+        second: 0,
+        third: 0,
+        key: 0,
+        save: 0,
+        vote: 0,
+        raw: 0,
+        nonsecure: 0,
+        awaited: NOTHING,
+        wrong: 0,
+    };
+    let count = os::arg_count();
+    for place in 2..count {
+        words = with(words, place);
+    }
+    words
+}
