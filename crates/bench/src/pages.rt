@@ -21,21 +21,28 @@ struct Folded {
     until: u32,
 }
 
-// " 4-60  as page 3"
-fn write_folded(folded: Folded) {
-    let until = folded.until;
-    if until <= folded.page {
-        return;
-    }
-    let from = folded.page + 1;
+// "14-60", in the column of the pages.
+fn range(from: u32, until: u32) {
     if from == until {
         print::right(from, 5);
-    } else {
-        print::right(from, 2);
-        print::text(b"-");
-        print::number_left(until, 2);
+        return;
     }
-    print::number_after(b"  as page ", folded.page);
+    if until < 10 {
+        print::blanks(1);
+    }
+    print::right(from, 2);
+    print::number_after(b"-", until);
+}
+
+// "14-60  as page 13"
+fn write_folded(folded: Folded) {
+    let page = folded.page;
+    let until = folded.until;
+    if until <= page {
+        return;
+    }
+    range(page + 1, until);
+    print::number_after(b"  as page ", page);
     print::end();
 }
 

@@ -7,7 +7,7 @@ fn words_to_five(number: u32) {
         0 => print::text(b"done"),
         1 => print::text(b"the row slice hasn't 4,096 entries"),
         2 => print::text(b"row above 4,095, or a vote group that runs past row 4,095"),
-        3 => print::text(b"an entry is above 16,777,215"),
+        3 => print::text(b"an entry that this call uses is above 16,777,215"),
         4 => print::text(b"vote count neither 3 nor 8"),
         _ => print::text(b"ECC on a row from 0xf80 up, or a vote group with any such row"),
     }
