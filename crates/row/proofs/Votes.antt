@@ -12,7 +12,7 @@ use lib.Arith.{digits-lt}
 use lib.Dec.{leb, lit<}
 use lib.ListN.{length, getD, take}
 use lib.Pow.{high, low, mod-pow-add}
-use lib.Seq.{take-nil, take-all}
+use lib.Seq.{take-nil, take-all, length-take-le, getD-take}
 use Rattle.row.specs.Choice.{if_then_else_}
 use Rattle.row.specs.Voting.{bitAt, holders, votedBit, votedBelow}
 use Rattle.row.proofs.Places.{bit-low}
@@ -27,6 +27,17 @@ holders-more place (row ∷ rows) zero = add-comm (bitAt place row) 0
 holders-more place (row ∷ rows) (suc i) =
     ap (λ (n : ℕ). bitAt place row + n) (holders-more place rows i)
     ∙ sym (add-assoc (bitAt place row) (holders place (take i rows)) (bitAt place (getD rows i 0)))
+
+-- one row more of those that count
+pub holders-counted : (place : ℕ) (rows : List ℕ) (count i : ℕ) → i < count
+    → holders place (take i (take count rows)) + bitAt place (getD rows i 0) ≡ holders place (take (suc i) (take count rows))
+holders-counted place rows count i h =
+    ap (λ (row : ℕ). holders place (take i (take count rows)) + bitAt place row) (sym (getD-take count rows i 0 h))
+    ∙ sym (holders-more place (take count rows) i)
+
+-- from the last row that counts on, no other row does
+pub all-counted : (rows : List ℕ) (count i : ℕ) → count ≤ length rows → count ≤ i → take i (take count rows) ≡ take count rows
+all-counted rows count i within h = take-all i (take count rows) (rw (length-take-le count rows within) h)
 
 -- ---- the voted bits
 

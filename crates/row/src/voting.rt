@@ -21,8 +21,10 @@ fn holders(rows: Gathered, count: usize, place: u32) -> u32
 {
     let mut held = 0;
     let mut i = 0;
-    while i < count {
-        held += (rows[i] >> place) % 2;
+    while i < 8 {
+        if i < count {
+            held += (rows[i] >> place) % 2;
+        }
         i += 1;
     }
     held
