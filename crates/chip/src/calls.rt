@@ -71,16 +71,15 @@ fn advanced(state: State, domain: u32, page: u32, level: u32) -> State
     ensures { λ r. ⌜ r ≡ spec.advanced state domain page level ⌝ }
 {
     let shown = shown_level(state, domain, Page { number: page as u8 });
-    if level <= shown {
-        return state;
-    }
     let mut next = state;
     let at = page as usize;
-    if domain == 0 {
-        next.secure[at] = level as u8;
-        return next;
+    if shown < level {
+        if domain == 0 {
+            next.secure[at] = level as u8;
+        } else {
+            next.nonsecure[at] = level as u8;
+        }
     }
-    next.nonsecure[at] = level as u8;
     next
 }
 

@@ -33,7 +33,8 @@ pub fn matches(state: State, index: u32) -> bool
         return false;
     }
     let at = (index - 1) as usize;
-    let key = state.keys[at];
+    let keys = state.keys;
+    let key = keys[at];
     if !key.valid {
         return false;
     }
@@ -85,6 +86,7 @@ pub fn hidden(state: State, row: u32) -> bool
         return false;
     }
     let at = ((row - 0xf48) / 8) as usize;
-    let key = state.keys[at];
+    let keys = state.keys;
+    let key = keys[at];
     key.valid
 }

@@ -24,15 +24,15 @@ cast-at c = search needs
 mul-key : tie.Need-mul-key
 mul-key c = search needs
 
-element-copy-out-key : tie.Need-element-copy-out-key
-element-copy-out-key c = search needs
+array-copy-out-key : tie.Need-array-copy-out-key
+array-copy-out-key c = search needs
 
 returns-3 : tie.Need-returns-3
 unfolding hidden
 returns-3 c =
-    let s = c .before .before .before in
+    let s = c .before .before .before .before in
     let at : 1 + (s .args .row - 0xf48) / 8 - 1 ≡ (s .args .row - 0xf48) / 8 = omega arith in
-    simp (le-leb _ _ (c .before .before .if1 .left), lt-ltb _ _ (c .before .if2 .left), at)
+    simp (le-leb _ _ (c .before .before .before .if1 .left), lt-ltb _ _ (c .before .before .if2 .left), at)
 
 pub hidden-spec : {M : Type 1} → statement M
-hidden-spec = tie.close (tie.spec returns returns-2 cast-at mul-key element-copy-out-key returns-3)
+hidden-spec = tie.close (tie.spec returns returns-2 cast-at mul-key array-copy-out-key returns-3)

@@ -25,23 +25,23 @@ cast-at c = search needs
 mul-key : tie.Need-mul-key
 mul-key c = search needs
 
-element-copy-out-key : tie.Need-element-copy-out-key
-element-copy-out-key c = search needs
+array-copy-out-key : tie.Need-array-copy-out-key
+array-copy-out-key c = search needs
 
 returns-3 : tie.Need-returns-3
 unfolding matches
 returns-3 c =
-    let s = c .before .before .before .before .before .args in
-    let valid : keyAt (s .t1) (s .index) .valid ≡ false = not-true _ (c .if3 .taken) in
-    simp (le-leb _ _ (c .before .before .before .before .if1 .left), le-leb _ _ (c .before .before .before .if2 .left), valid)
+    let s = c .before .before .before .before .before .before .args in
+    let valid : keyAt (s .state) (s .index) .valid ≡ false = not-true _ (c .if3 .taken) in
+    simp (le-leb _ _ (c .before .before .before .before .before .if1 .left), le-leb _ _ (c .before .before .before .before .if2 .left), valid)
 
 returns-4 : tie.Need-returns-4
 unfolding matches
 returns-4 c =
-    let s = c .before .before .before .before .before .before .before .args in
-    let valid : keyAt (s .t1) (s .index) .valid ≡ true = not-false _ (c .before .before .if3 .left) in
-    let whole : keyAt (s .t1) (s .index) .whole ≡ false = not-true _ (c .if4 .taken) in
-    simp (le-leb _ _ (c .before .before .before .before .before .before .if1 .left), le-leb _ _ (c .before .before .before .before .before .if2 .left), valid, whole)
+    let s = c .before .before .before .before .before .before .before .before .args in
+    let valid : keyAt (s .state) (s .index) .valid ≡ true = not-false _ (c .before .before .if3 .left) in
+    let whole : keyAt (s .state) (s .index) .whole ≡ false = not-true _ (c .if4 .taken) in
+    simp (le-leb _ _ (c .before .before .before .before .before .before .before .if1 .left), le-leb _ _ (c .before .before .before .before .before .before .if2 .left), valid, whole)
 
 same-requires : tie.Need-same-requires
 same-requires c κs = search needs
@@ -49,12 +49,12 @@ same-requires c κs = search needs
 returns-5 : tie.Need-returns-5
 unfolding matches
 returns-5 c =
-    let s = c .before .before .before .before .before .before .before .before .before .before .before .args in
-    let valid : keyAt (s .t1) (s .index) .valid ≡ true = not-false _ (c .before .before .before .before .before .before .if3 .left) in
-    let whole : keyAt (s .t1) (s .index) .whole ≡ true = not-false _ (c .before .before .before .before .if4 .left) in
-    let other : same (keyAt (s .t1) (s .index) .words) (s .t1 .entered) ≡ false =
+    let s = c .before .before .before .before .before .before .before .before .before .before .before .before .args in
+    let valid : keyAt (s .state) (s .index) .valid ≡ true = not-false _ (c .before .before .before .before .before .before .if3 .left) in
+    let whole : keyAt (s .state) (s .index) .whole ≡ true = not-false _ (c .before .before .before .before .if4 .left) in
+    let other : same (keyAt (s .state) (s .index) .words) (s .state .entered) ≡ false =
     sym (c .before .same .ensures) ∙ not-true _ (c .if5 .taken) in
-    simp (le-leb _ _ (c .before .before .before .before .before .before .before .before .before .before .if1 .left), le-leb _ _ (c .before .before .before .before .before .before .before .before .before .if2 .left), valid, whole, other)
+    simp (le-leb _ _ (c .before .before .before .before .before .before .before .before .before .before .before .if1 .left), le-leb _ _ (c .before .before .before .before .before .before .before .before .before .before .if2 .left), valid, whole, other)
 
 same-requires-2 : tie.Need-same-requires-2
 same-requires-2 c κs = search needs
@@ -62,12 +62,12 @@ same-requires-2 c κs = search needs
 returns-6 : tie.Need-returns-6
 unfolding matches
 returns-6 c =
-    let s = c .before .before .before .before .before .before .before .before .before .before .before .before .args in
-    let valid : keyAt (s .t1) (s .index) .valid ≡ true = not-false _ (c .before .before .before .before .before .before .before .if3 .left) in
-    let whole : keyAt (s .t1) (s .index) .whole ≡ true = not-false _ (c .before .before .before .before .before .if4 .left) in
-    let equal : same (keyAt (s .t1) (s .index) .words) (s .t1 .entered) ≡ true =
+    let s = c .before .before .before .before .before .before .before .before .before .before .before .before .before .args in
+    let valid : keyAt (s .state) (s .index) .valid ≡ true = not-false _ (c .before .before .before .before .before .before .before .if3 .left) in
+    let whole : keyAt (s .state) (s .index) .whole ≡ true = not-false _ (c .before .before .before .before .before .if4 .left) in
+    let equal : same (keyAt (s .state) (s .index) .words) (s .state .entered) ≡ true =
     sym (c .before .before .same .ensures) ∙ not-false _ (c .before .if5 .left) in
-    simp (le-leb _ _ (c .before .before .before .before .before .before .before .before .before .before .before .if1 .left), le-leb _ _ (c .before .before .before .before .before .before .before .before .before .before .if2 .left), valid, whole, equal) (ap not (c .same2 .ensures))
+    simp (le-leb _ _ (c .before .before .before .before .before .before .before .before .before .before .before .before .if1 .left), le-leb _ _ (c .before .before .before .before .before .before .before .before .before .before .before .if2 .left), valid, whole, equal) (ap not (c .same2 .ensures))
 
 pub matches-spec : {M : Type 1} → statement M
 matches-spec =
@@ -77,7 +77,7 @@ matches-spec =
     returns-2
     cast-at
     mul-key
-    element-copy-out-key
+    array-copy-out-key
     returns-3
     returns-4
     same-requires
