@@ -1,83 +1,28 @@
--- `access::writes::write_raw` meets its contract: a number that is not 0 is a refusal, and 0 burns the row.
+-- `access::writes::write_raw` meets its contract: the answer, beside the state that came in.
 -- Assumes nothing.
 use borrow.Author.Needs.{needs}
-use mathlib.Core.Path.{_≡_, sym, _∙_}
 use denote.Ref.{now}
-use mathlib.Core.Bool.{true, false}
-use borrow.Author.Tests.{eq-eqb, ne-eqb}
-use lib.Dec.{ltb}
-use Rattle.access.specs.Writes.{writeRaw}
-use Rattle.access.proofs.Passing.{row-passed}
+use Rattle.row.specs.Writing.{rawWritten}
+use Rattle.chip.specs.Lists.{entry}
+use Rattle.access.specs.Writes.{writeRaw, writeRawNumber}
+use Rattle.access.proofs.Staying.{stays}
 use Rattle.access.proofs.writes.write_raw.Statement.{statement}
 use Rattle.access.proofs.writes.write_raw.Tie as tie
 
-may-write-requires : tie.Need-may-write-requires
-may-write-requires c κs = search needs
-
-row-number-requires : tie.Need-row-number-requires
-row-number-requires c κs = search needs
-
-refusal-requires : tie.Need-refusal-requires
-refusal-requires c κs = search needs
+raw-answer-requires : tie.Need-raw-answer-requires
+raw-answer-requires c κs = search needs
 
 same-length : tie.Need-same-length
 same-length c = search needs
 
 returns : tie.Need-returns
 unfolding writeRaw
-returns c = (
-  rw (← c .before .before .before .before .may-write .ensures, ← c .before .before .row-number .ensures, ne-eqb _ _ (c .before .if1 .taken)) (c .refusal .ensures),
-  rw (← c .before .before .before .before .may-write .ensures, ← c .before .before .row-number .ensures, ne-eqb _ _ (c .before .if1 .taken)),
-)
-
-mul-write-raw : tie.Need-mul-write-raw
-mul-write-raw c = search needs
-
-slice-read-write-raw : tie.Need-slice-read-write-raw
-slice-read-write-raw c =
-    let s = c .before .before .before .before .before .before .args in
-    row-passed (now (s .rows)) (s .state) (s .caller) (s .row) false (ltb 16777215 (s .value)) (c .before .before .before .before .may-write .result)
-    (sym (c .before .before .row-number .ensures) ∙ c .before .if1 .left) .0
-
-write-raw-requires : tie.Need-write-raw-requires
-write-raw-requires c κs = search needs
-
-mul-rows : tie.Need-mul-rows
-mul-rows c = search needs
-
-slice-write-rows : tie.Need-slice-write-rows
-slice-write-rows c =
-    let s = c .before .before .before .before .before .before .before .args in
-    row-passed (now (s .rows)) (s .state) (s .caller) (s .row) false (ltb 16777215 (s .value)) (c .before .before .before .before .before .may-write .result)
-    (sym (c .before .before .before .row-number .ensures) ∙ c .before .before .if1 .left) .0
-
-spent-requires : tie.Need-spent-requires
-spent-requires c κs = search needs
-
-same-length-2 : tie.Need-same-length-2
-same-length-2 c = search needs
-
-returns-2 : tie.Need-returns-2
-unfolding writeRaw
-returns-2 c = (
-  rw (← c .before .before .before .before .before .before .may-write .ensures, ← c .before .before .before .before .row-number .ensures, eq-eqb _ _ (c .before .before .before .if1 .left)) (simp (c .spent .ensures, c .before .write-raw .ensures)),
-  rw (← c .before .before .before .before .before .before .may-write .ensures, ← c .before .before .before .before .row-number .ensures, eq-eqb _ _ (c .before .before .before .if1 .left)) (simp (c .before .write-raw .ensures)),
-)
+returns c =
+    let s = c .before .before .before .before .before .args in
+    let rows = now (s .rows) in (
+      stays (writeRawNumber rows (s .state) (s .caller) (s .row) (s .value)) rows (s .state) (s .row) (rawWritten (entry rows (s .row)) (s .value)) _ (c .before .before .raw-answer .ensures .0),
+      c .before .before .raw-answer .ensures .1,
+    )
 
 pub write-raw-spec : {M : Type 1} → statement M
-write-raw-spec =
-    tie.close
-    (tie.spec
-    may-write-requires
-    row-number-requires
-    refusal-requires
-    same-length
-    returns
-    mul-write-raw
-    slice-read-write-raw
-    write-raw-requires
-    mul-rows
-    slice-write-rows
-    spent-requires
-    same-length-2
-    returns-2)
+write-raw-spec = tie.close (tie.spec raw-answer-requires same-length returns)
