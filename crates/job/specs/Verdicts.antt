@@ -19,12 +19,16 @@ use Rattle.job.specs.declared.verdicts.Verdict.{Verdict}
 unfoldable pub entryWritten : ℕ → Entry → Written
 entryWritten old e = if eqb (e .kind) 0 then eccWritten old (dataOf (e .value)) else rawWritten old (e .value)
 
--- an entry, judged as Secure: 7, 3, 9
-unfoldable pub entryNumber : List ℕ → State → Entry → ℕ
-entryNumber rows state e =
-    if not (mayWrite state 0 (e .row)) then 7
+-- an entry whose row may be written, or may not: 7, 3, 9
+abbrev pub numberIf : Bool → List ℕ → Entry → ℕ
+numberIf may rows e =
+    if not may then 7
     else if ltb 16777215 (entry rows (e .row)) then 3
     else entryWritten (entry rows (e .row)) e .number
+
+-- jobs run as Secure
+unfoldable pub entryNumber : List ℕ → State → Entry → ℕ
+entryNumber rows state e = numberIf (mayWrite state 0 (e .row)) rows e
 
 -- entries in order, the first of them the i-th: the first that is refused gives its number and its index
 unfoldable pub judgedFrom : List ℕ → State → ℕ → List Entry → Verdict

@@ -1,6 +1,7 @@
 // Judging a job whole, before the first pulse (document 01, "Jobs").
 ghost use mathlib.Core.Path.{_≡_};
 ghost use Rattle.job.specs.Entries.{entriesFrom};
+ghost use Rattle.chip.specs.Permission.{mayWrite};
 ghost use Rattle.job.specs.Verdicts as spec;
 use crate::entries::Entry;
 use crate::entries::count_of;
@@ -8,6 +9,7 @@ use crate::entries::entry_at;
 use crate::entries::malformed;
 use crate::entries::out_of_order;
 use crate::rows::entry_of;
+use chip::pages::Page;
 use chip::permission::may_write;
 use chip::state::State;
 use row::writing::Written;
@@ -31,15 +33,38 @@ pub fn entry_written(old: u32, entry: Entry) -> Written
     write_raw(old, value)
 }
 
-// The number of an entry, judged as Secure.
-pub fn entry_number(rows: &[u32], state: State, entry: Entry) -> u32
-    ensures { λ r. ⌜ r ≡ spec.entryNumber (now (rows .entry)) state entry ⌝ }
+// Whether Secure may write a row.
+struct Leave {
+    row: u32,
+    may: bool,
+}
+
+// Whether Secure may write a row. Rows of one page share the answer, so that of the row before is kept where it serves: to look it up
+// is what judging an entry would mostly be.
+fn leave_for(row: u32, before: Leave, state: State) -> Leave
+    requires { ⌜ before .may ≡ mayWrite state 0 (before .row) ⌝ }
+    ensures { λ r. ⌜ (r .row ≡ row) × (r .may ≡ mayWrite state 0 row) ⌝ }
 {
-    let row = entry.row;
-    if !may_write(state, 0, row) {
+    let page = Page::owner(row);
+    let page_before = Page::owner(before.row);
+    if page.number == page_before.number {
+        return Leave {
+            row,
+            may: before.may,
+        };
+    }
+    let may = may_write(state, 0, row);
+    Leave { row, may }
+}
+
+// The number of an entry whose row may be written, or may not.
+pub fn entry_number(rows: &[u32], may: bool, entry: Entry) -> u32
+    ensures { λ r. ⌜ r ≡ spec.numberIf may (now (rows .entry)) entry ⌝ }
+{
+    if !may {
         return 7;
     }
-    let old = entry_of(rows, row);
+    let old = entry_of(rows, entry.row);
     if 16777215 < old {
         return 3;
     }
@@ -51,9 +76,14 @@ pub fn entry_number(rows: &[u32], state: State, entry: Entry) -> u32
 pub fn judged(rows: &[u32], state: State, job: &[u8], count: u32) -> Verdict
     ensures { λ r. ⌜ r ≡ spec.judgedFrom (now (rows .entry)) state 0 (entriesFrom (now (job .entry)) 0 count) ⌝ }
 {
+    let may = may_write(state, 0, 0);
+    let mut leave = Leave { row: 0, may };
     let mut i = 0;
     while i < count {
-        let number = entry_number(rows, state, entry_at(job, i));
+        let entry = entry_at(job, i);
+        let next = leave_for(entry.row, leave, state);
+        leave = next;
+        let number = entry_number(rows, next.may, entry);
         if number != 0 {
             return Verdict { number, place: i };
         }

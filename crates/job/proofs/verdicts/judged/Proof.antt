@@ -1,12 +1,18 @@
--- `job::verdicts::judged` meets its contract. The invariant: the entries that are left answer for the whole.
+-- `job::verdicts::judged` meets its contract. The invariant: the entries that are left answer for the whole, and what is
+-- kept of the row before is so.
 -- Assumes nothing.
 use borrow.Author.Needs.{needs}
 use denote.Ref.{now}
 use mathlib.Core.Path.{_≡_, refl, sym, ap, _∙_}
 use Prim.Native.Nat.{ℕ, suc, _+_, _-_, _*_, _/_, _%_, _^_, _≤_, _<_}
 use native.Mathlib.Omega.{arith}
+use mathlib.Core.Bool.{Bool}
+use mathlib.Core.List.{List}
+use Rattle.chip.specs.Permission.{mayWrite}
+use Rattle.chip.specs.declared.state.State.{State}
 use Rattle.job.specs.Entries.{entryAt, entriesFrom}
-use Rattle.job.specs.Verdicts.{entryNumber, judgedFrom}
+use Rattle.job.specs.declared.entries.Entry.{Entry}
+use Rattle.job.specs.Verdicts.{numberIf, entryNumber, judgedFrom}
 use Rattle.job.specs.declared.verdicts.Verdict.{Verdict}
 use Rattle.job.proofs.Upward.{all-left, none-left, judged-stops, judged-next}
 use Rattle.job.proofs.verdicts.judged.Statement.{statement}
@@ -16,27 +22,47 @@ abbrev verdict : ℕ → ℕ → Verdict
 verdict number place = record { number = number; place = place }
 
 abbrev Inv-loop : tie.InvT-loop
-Inv-loop rows state job count i₀ i =
-    (i ≤ count) × (judgedFrom rows state 0 (entriesFrom job 0 count) ≡ judgedFrom rows state i (entriesFrom job i (count - i)))
+Inv-loop rows state job count may leave₀ i₀ leave i =
+    (i ≤ count)
+    × (leave .may ≡ mayWrite state 0 (leave .row))
+    × (judgedFrom rows state 0 (entriesFrom job 0 count) ≡ judgedFrom rows state i (entriesFrom job i (count - i)))
 
 abbrev μ-loop : tie.MeasureT-loop
-μ-loop rows state job count i₀ i = count - i
+μ-loop rows state job count may leave₀ i₀ leave i = count - i
+
+may-write-requires : tie.Need-may-write-requires Inv-loop μ-loop
+may-write-requires c κs = search needs
 
 loop-holds : tie.Need-loop-holds Inv-loop μ-loop
-loop-holds c = (search needs, ap (judgedFrom (now (c .before .before .args .rows)) (c .before .before .args .state) 0) (all-left (now (c .before .before .args .job)) (c .before .before .args .count)))
+loop-holds c =
+    let s = c .before .before .before .args in (
+      search needs,
+      c .may-write .ensures,
+      ap (judgedFrom (now (s .rows)) (s .state) 0) (all-left (now (s .job)) (s .count)),
+    )
 
 entry-at-requires : tie.Need-entry-at-requires Inv-loop μ-loop
 entry-at-requires c κs = search needs
 
+leave-for-requires : tie.Need-leave-for-requires Inv-loop μ-loop
+leave-for-requires c κs = c .before .before .loop .inv .1
+
 entry-number-requires : tie.Need-entry-number-requires Inv-loop μ-loop
 entry-number-requires c κs = search needs
 
+-- what was learnt of the entry is what its definition says
+of-entry : (rows : List ℕ) (state : State) (e entry : Entry) (may : Bool) (number : ℕ)
+    → e ≡ entry → may ≡ mayWrite state 0 (e .row) → number ≡ numberIf may rows e → number ≡ entryNumber rows state entry
+unfolding entryNumber
+of-entry rows state e entry may number same leave answered =
+    answered ∙ ap (λ (m : Bool). numberIf m rows e) leave ∙ ap (λ (x : Entry). numberIf (mayWrite state 0 (x .row)) rows x) same
+
 returns : tie.Need-returns Inv-loop μ-loop
 returns c =
-    let s = c .before .before .before .before .before .before .before .args in
-    let l = c .before .before .before .before .loop in
-    let number = c .before .entry-number .ensures ∙ ap (entryNumber (now (s .rows)) (s .state)) (c .before .before .entry-at .ensures) in
-    sym (l .inv .1 ∙ judged-stops (now (s .job)) (s .count) (l .i) (omega arith) (now (s .rows)) (s .state) (λ e. c .if1 .taken (number ∙ e))
+    let s = c .before .before .before .before .before .before .before .before .before .args in
+    let l = c .before .before .before .before .before .loop in
+    let number = of-entry (now (s .rows)) (s .state) _ _ _ _ (c .before .before .before .entry-at .ensures) (c .before .before .leave-for .ensures .1) (c .before .entry-number .ensures) in
+    sym (l .inv .2 ∙ judged-stops (now (s .job)) (s .count) (l .i) (omega arith) (now (s .rows)) (s .state) (λ e. c .if1 .taken (number ∙ e))
     ∙ ap (λ (n : ℕ). verdict n (l .i)) (sym number))
 
 add-i : tie.Need-add-i Inv-loop μ-loop
@@ -47,20 +73,22 @@ loop-less c = omega arith
 
 loop-again : tie.Need-loop-again Inv-loop μ-loop
 loop-again c =
-    let s = c .before .before .before .before .before .before .before .args in
-    let l = c .before .before .before .before .loop in
-    let number = c .before .entry-number .ensures ∙ ap (entryNumber (now (s .rows)) (s .state)) (c .before .before .entry-at .ensures) in (
+    let s = c .before .before .before .before .before .before .before .before .before .args in
+    let l = c .before .before .before .before .before .loop in
+    let leave = c .before .before .leave-for in
+    let number = of-entry (now (s .rows)) (s .state) _ _ _ _ (c .before .before .before .entry-at .ensures) (leave .ensures .1) (c .before .entry-number .ensures) in (
       omega arith,
-      l .inv .1
+      leave .ensures .1 ∙ ap (mayWrite (s .state) 0) (sym (leave .ensures .0)),
+      l .inv .2
           ∙ judged-next (now (s .job)) (s .count) (l .i) (omega arith) (now (s .rows)) (s .state) (sym number ∙ c .if1 .left),
     )
 
 returns-2 : tie.Need-returns-2 Inv-loop μ-loop
 unfolding judgedFrom
 returns-2 c =
-    let s = c .before .before .before .before .args in
+    let s = c .before .before .before .before .before .args in
     let l = c .before .loop in
-    sym (l .inv .1 ∙ ap (judgedFrom (now (s .rows)) (s .state) (l .i)) (none-left (now (s .job)) (s .count) (l .i) (omega arith)))
+    sym (l .inv .2 ∙ ap (judgedFrom (now (s .rows)) (s .state) (l .i)) (none-left (now (s .job)) (s .count) (l .i) (omega arith)))
 
 pub judged-spec : {M : Type 1} → statement M
 judged-spec =
@@ -68,8 +96,10 @@ judged-spec =
     (tie.spec
     Inv-loop
     μ-loop
+    may-write-requires
     loop-holds
     entry-at-requires
+    leave-for-requires
     entry-number-requires
     returns
     add-i
