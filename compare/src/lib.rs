@@ -14,6 +14,8 @@ pub mod keys;
 pub mod locks;
 pub mod model;
 
+pub mod plain;
+
 #[cfg(not(feature = "self-test"))]
 pub mod driver;
 #[cfg(not(feature = "self-test"))]

@@ -1,15 +1,11 @@
-/* How long each call of libotp.a takes, and the most stack that it uses: the figures of docs/TIMINGS.md. Each call is made on
-   a board of 512 burnt rows, by Secure, and is done (number 0). A time is the best of many runs, so that other work on the
-   machine counts little. Stack is measured: the call runs on a stack of its own that was painted before. */
-#define _GNU_SOURCE
+/* The most stack that each call of libotp.a uses, for docs/TIMINGS.md. It is measured: the call runs on a stack of its own that was
+   painted before. Each call is made on a board of 512 burnt rows, by Secure, and is done (number 0). */
 #include <stdio.h>
-#include <stdlib.h>
 #include <string.h>
-#include <time.h>
 #include <ucontext.h>
 #include "otp.h"
 
-enum { ROWS = 4096, JOB = 7 + 6 * 512, STACK = 65536, RUNS = 300 };
+enum { ROWS = 4096, JOB = 7 + 6 * 512, STACK = 65536 };
 
 static uint32_t blank[ROWS], burnt[ROWS], rows[ROWS];
 static uint8_t job[JOB], key[16] = {1};
@@ -37,27 +33,6 @@ static const struct { const char *name; void (*call)(void); const uint32_t *boar
     {"advance a lock", advance, burnt}, {"show a lock", show, burnt}, {"enter a key", enter_key, burnt},
     {"run a job of 512", run_job, blank}, {"rehearse, 2,700 pulses", rehearse, blank},
 };
-
-static double nanoseconds(void)
-{
-    struct timespec t;
-    clock_gettime(CLOCK_MONOTONIC, &t);
-    return (double)t.tv_sec * 1e9 + (double)t.tv_nsec;
-}
-
-static double best_time(void (*call)(void), const uint32_t *board)
-{
-    double best = 1e18;
-    for (int run = 0; run < RUNS; run++) {
-        memcpy(rows, board, sizeof rows);
-        double before = nanoseconds();
-        call();
-        double took = nanoseconds() - before;
-        if (took < best)
-            best = took;
-    }
-    return best;
-}
 
 static size_t stack_used(void (*call)(void), const uint32_t *board)
 {
@@ -87,17 +62,15 @@ int main(void)
     }
     run_job();
     memcpy(burnt, rows, sizeof rows);
-    double empty_time = best_time(nothing, blank);
-    size_t empty_stack = stack_used(nothing, blank);
-    printf("call                     nanoseconds   stack\n");
+    size_t empty = stack_used(nothing, blank);
+    printf("call                   bytes of stack\n");
     for (size_t i = 0; i < sizeof calls / sizeof calls[0]; i++) {
-        double took = best_time(calls[i].call, calls[i].board) - empty_time;
-        size_t stack = stack_used(calls[i].call, calls[i].board) - empty_stack;
+        size_t stack = stack_used(calls[i].call, calls[i].board) - empty;
         if (answer.number != 0) {
             printf("%s was refused with %u\n", calls[i].name, (unsigned)answer.number);
             return 1;
         }
-        printf("%-22s %13.0f %7zu\n", calls[i].name, took, stack);
+        printf("%-22s %14zu\n", calls[i].name, stack);
     }
     return 0;
 }

@@ -1,0 +1,129 @@
+//! What the timed calls are made on, and the calls on both sides.
+
+use compare::plain::{access, chip, jobs, row};
+use compare::shape::{Answer, State, ROWS, SECURE};
+
+const ENTRIES: usize = 512;
+const JOB: usize = 7 + 6 * ENTRIES;
+/// The page that key 1 guards.
+const KEYED_PAGE: usize = 20;
+/// A row of that page that the job burns.
+pub const KEYED_ROW: u32 = 1281;
+
+/// All that a call takes, and what it answered: the same as `work` in compare/work.c.
+#[repr(C, align(8))]
+#[derive(Clone, PartialEq)]
+pub struct Work {
+    pub rows: [u32; ROWS],
+    pub job: [u8; JOB],
+    pub key: [u8; 16],
+    pub caller: u32,
+    pub row: u32,
+    pub count: u32,
+    pub value: u32,
+    pub domain: u32,
+    pub page: u32,
+    pub level: u32,
+    pub limit: u32,
+    pub state: State,
+    pub answer: Answer,
+}
+
+extern "C" {
+    pub fn work_reset(work: &mut Work);
+    pub fn work_read_raw(work: &mut Work);
+    pub fn work_read_ecc(work: &mut Work);
+    pub fn work_read_vote(work: &mut Work);
+    pub fn work_write_raw(work: &mut Work);
+    pub fn work_write_ecc(work: &mut Work);
+    pub fn work_advance(work: &mut Work);
+    pub fn work_show(work: &mut Work);
+    pub fn work_enter_key(work: &mut Work);
+    pub fn work_run_job(work: &mut Work);
+    pub fn work_rehearse(work: &mut Work);
+    pub fn work_read_shape(work: &mut Work);
+    pub fn work_write_shape(work: &mut Work);
+}
+
+pub fn reset(w: &mut Work) {
+    w.answer = chip::reset(&w.rows, &mut w.state)
+}
+
+pub fn read_raw(w: &mut Work) {
+    w.answer = access::read_raw(&w.rows, &w.state, w.caller, w.row)
+}
+
+pub fn read_ecc(w: &mut Work) {
+    w.answer = access::read_ecc(&w.rows, &w.state, w.caller, w.row)
+}
+
+pub fn read_vote(w: &mut Work) {
+    w.answer = access::read_vote(&w.rows, &w.state, w.caller, w.row, w.count)
+}
+
+pub fn write_raw(w: &mut Work) {
+    w.answer = access::write_raw(&mut w.rows, &w.state, w.caller, w.row, w.value)
+}
+
+pub fn write_ecc(w: &mut Work) {
+    w.answer = access::write_ecc(&mut w.rows, &w.state, w.caller, w.row, w.value)
+}
+
+pub fn advance(w: &mut Work) {
+    w.answer = chip::advance(&mut w.state, w.caller, w.domain, w.page, w.level)
+}
+
+pub fn show(w: &mut Work) {
+    w.answer = chip::show(&w.state, w.caller, w.domain, w.page)
+}
+
+pub fn enter_key(w: &mut Work) {
+    w.answer = chip::enter_key(&mut w.state, w.caller, &w.key)
+}
+
+pub fn run_job(w: &mut Work) {
+    w.answer = jobs::run_job(&mut w.rows, &w.state, &w.job)
+}
+
+pub fn rehearse(w: &mut Work) {
+    w.answer = jobs::rehearse(&mut w.rows, &w.state, &w.job, w.limit)
+}
+
+/// Every seventh row, ECC, with values that spread over the 16 bits.
+fn job() -> [u8; JOB] {
+    let mut job = [0; JOB];
+    job[..7].copy_from_slice(&[0x4f, 0x54, 0x4a, 1, 0, 0, 2]);
+    for (i, entry) in job[7..].chunks_exact_mut(6).enumerate() {
+        entry[..2].copy_from_slice(&(7 * i as u16).to_le_bytes());
+        entry[3..5].copy_from_slice(&(129 * i as u32).to_le_bytes()[..2]);
+    }
+    job
+}
+
+/// The board that the calls are made on: key 1 burnt and valid, a page registered to it, the key entered, the job burnt.
+pub fn board() -> Work {
+    let mut work = Work {
+        rows: [0; ROWS],
+        job: job(),
+        key: *b"sixteen byte key",
+        caller: SECURE,
+        row: 7,
+        count: 8,
+        value: 0x5053,
+        domain: 0,
+        page: 9,
+        level: 1,
+        limit: 2700,
+        state: State::blank(),
+        answer: Answer::default(),
+    };
+    for (i, bytes) in work.key.chunks_exact(2).enumerate() {
+        work.rows[0xf48 + i] = row::code(u16::from_le_bytes([bytes[0], bytes[1]]));
+    }
+    work.rows[0xf79] = 0x010101;
+    work.rows[0xf80 + 2 * KEYED_PAGE] = 0x010101;
+    reset(&mut work);
+    enter_key(&mut work);
+    run_job(&mut work);
+    work
+}

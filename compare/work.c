@@ -1,0 +1,40 @@
+/* Each call of libotp.a on one struct that holds all that it takes, for src/bin/timings/. The face takes the state by value, and a
+   call that can change it gives it back by value, so each of these copies it in and, where it comes back, out: what any caller in C
+   does. The last two do nothing but that. */
+#include "otp.h"
+
+enum { ROWS = 4096, JOB = 7 + 6 * 512, KEY = 16 };
+
+/* The same as `Work` in src/bin/timings/work.rs. Aligned as a variable of its own would be: a state that is not is copied twice. */
+typedef struct {
+    _Alignas(8) uint32_t rows[ROWS];
+    uint8_t job[JOB];
+    uint8_t key[KEY];
+    uint32_t caller, row, count, value, domain, page, level, limit;
+    otp_state state;
+    otp_answer answer;
+} work;
+
+static void keep(work *w, otp_outcome outcome)
+{
+    w->answer = outcome.answer;
+    w->state = outcome.state;
+}
+
+void work_reset(work *w) { keep(w, otp_reset(w->rows, ROWS, w->state)); }
+void work_read_raw(work *w) { w->answer = otp_read_raw(w->rows, ROWS, w->state, w->caller, w->row); }
+void work_read_ecc(work *w) { w->answer = otp_read_ecc(w->rows, ROWS, w->state, w->caller, w->row); }
+void work_read_vote(work *w) { w->answer = otp_read_vote(w->rows, ROWS, w->state, w->caller, w->row, w->count); }
+void work_write_raw(work *w) { keep(w, otp_write_raw(w->rows, ROWS, w->state, w->caller, w->row, w->value)); }
+void work_write_ecc(work *w) { keep(w, otp_write_ecc(w->rows, ROWS, w->state, w->caller, w->row, w->value)); }
+void work_advance(work *w) { keep(w, otp_advance(w->state, w->caller, w->domain, w->page, w->level)); }
+void work_show(work *w) { w->answer = otp_show(w->state, w->caller, w->domain, w->page); }
+void work_enter_key(work *w) { keep(w, otp_enter_key(w->state, w->caller, w->key, KEY)); }
+void work_run_job(work *w) { keep(w, otp_run_job(w->rows, ROWS, w->state, w->job, JOB)); }
+void work_rehearse(work *w) { keep(w, otp_rehearse(w->rows, ROWS, w->state, w->job, JOB, w->limit)); }
+
+__attribute__((noinline)) otp_answer read_shape(otp_state state) { return (otp_answer){.value = state.secure[9]}; }
+__attribute__((noinline)) otp_outcome write_shape(otp_state state) { return (otp_outcome){.state = state}; }
+
+void work_read_shape(work *w) { w->answer = read_shape(w->state); }
+void work_write_shape(work *w) { keep(w, write_shape(w->state)); }
