@@ -1,3 +1,4 @@
+pub mod Answering
 pub mod Passing
 pub mod Staying
 pub mod Upward
