@@ -1,15 +1,14 @@
 -- Lists by their places: what an array that is filled place by place holds, what stands at a place, and when two lists are the same.
 -- Assumes nothing.
-use mathlib.Core.Path.{_≡_, refl, sym, ap, ap₂, _∙_, subst}
-use mathlib.Core.Bool.{Bool, true, false, _&&_}
+use mathlib.Core.Path.{_≡_, refl, sym, ap, _∙_}
+use mathlib.Core.Bool.{true, false}
 use mathlib.Core.List.{List, [], _∷_, _++_}
-use Prim.Native.Nat.{ℕ, zero, suc, _+_, _≤_, _<_}
-use native.Mathlib.Nat.{le-of-suc-le-suc, not-suc-le-zero, le-refl, le-of-eq, le-of-lt, lt-of-lt-of-le, eq-or-lt-of-le}
+use Prim.Native.Nat.{ℕ, zero, suc, _+_, _<_}
+use native.Mathlib.Nat.{le-of-suc-le-suc, not-suc-le-zero, le-of-eq}
 use native.Mathlib.Numerals.{add-one}
 use borrow.Author.Tests.{eq-eqb, ne-eqb}
-use lib.Dec.{eqb, leb}
-use lib.ListN.{length, getD, take, drop, set, length-append, List·getD-append}
-use lib.Seq.{take-suc-set, take-all, take-length, drop-cons, drop-length, getD-at}
+use lib.ListN.{length, getD, take, drop, set, length-append}
+use lib.Seq.{take-suc-set, take-all, drop-cons, drop-length}
 use Rattle.chip.specs.Lists.{listed, same}
 
 -- what stands at a place of a list is the same whatever stands past it

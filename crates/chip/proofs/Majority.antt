@@ -1,14 +1,14 @@
 -- The vote of a lock row's three copies is their majority, bit by bit.
 -- Assumes nothing.
-use mathlib.Core.Path.{_≡_, refl, sym, ap, _∙_}
-use mathlib.Core.List.{List, [], _∷_}
-use Prim.Native.Nat.{ℕ, zero, suc, _+_, _*_, _/_, _%_, _^_, _<_, min, max}
-use native.Mathlib.Nat.{add-zero, add-assoc, mod-lt, mod-eq-of-lt, le-refl, lt-of-lt-of-le}
+use mathlib.Core.Path.{_≡_, sym, _∙_}
+use mathlib.Core.List.{[], _∷_}
+use Prim.Native.Nat.{ℕ, _+_, _/_, _%_, _^_, _<_, min, max}
+use native.Mathlib.Nat.{add-zero, mod-lt, mod-eq-of-lt, lt-of-lt-of-le}
 use lib.Bits.{bitAnd, bitOr, or-lt, and-lt}
 use lib.Dec.{leb, lit≤}
 use lib.Pow.{pow-pos, pow-mono}
 use Rattle.row.specs.Choice.{if_then_else_}
-use Rattle.row.specs.Voting.{bitAt, holders, votedBit, votedBelow, vote}
+use Rattle.row.specs.Voting.{bitAt, holders, votedBit, vote}
 use Rattle.row.proofs.Digits.{equal3}
 use Rattle.row.proofs.Places.{bit-and, bit-or, bit-lt}
 use Rattle.row.proofs.Votes.{voted-is}

@@ -1,7 +1,7 @@
 -- Tests that a definition makes in one and the code in two.
 -- Assumes nothing.
-use mathlib.Core.Path.{_≡_, refl, ap, _∙_}
-use mathlib.Core.Bool.{Bool, true, false, _&&_}
+use mathlib.Core.Path.{_≡_, refl}
+use mathlib.Core.Bool.{Bool, true, false}
 use Prim.Native.Nat.{ℕ, _≤_, _<_, max}
 use native.Mathlib.Nat.{max-le, le-max-left, le-max-right, lt-of-lt-of-le}
 use borrow.Author.Tests.{le-leb, lt-leb, leb-true, leb-false}

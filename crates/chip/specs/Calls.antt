@@ -1,6 +1,6 @@
 -- The calls on the state: reset, advance a lock, show a lock, enter a key (document 01). Each has its number, first test first, and what it does.
 use Prim.Native.Nat.{ℕ, _+_, _*_}
-use mathlib.Core.Bool.{Bool, not, _&&_, _||_}
+use mathlib.Core.Bool.{not, _&&_, _||_}
 use mathlib.Core.List.{List}
 use lib.Dec.{eqb, ltb, leb}
 use lib.ListN.{length, getD, set}
@@ -9,7 +9,7 @@ use Rattle.row.specs.Answers.{refused, found}
 use Rattle.row.specs.declared.answer.Answer.{Answer}
 use Rattle.row.specs.declared.answer.Condition.the-variants.{Clean}
 use Rattle.chip.specs.Latching.{allInRange, latched}
-use Rattle.chip.specs.Lists.{entry, listed}
+use Rattle.chip.specs.Lists.{listed}
 use Rattle.chip.specs.States.{countedLevel, withSecure, withNonsecure, withEntered, outcome}
 use Rattle.chip.specs.declared.state.State.{State}
 use Rattle.chip.specs.declared.state.Outcome.{Outcome}

@@ -1,7 +1,6 @@
 // Reset, and what it latches of the rows (document 01, "Locks" and "Keys").
 ghost use mathlib.Core.Path.{_≡_};
-ghost use Prim.Native.Nat.{_+_, _*_, _/_, _%_, _^_, _≤_, _<_, min};
-ghost use lib.Dec.{eqb};
+ghost use Prim.Native.Nat.{_+_, _*_, _/_, _%_, _^_, _≤_, _<_};
 ghost use lib.ListN.{length};
 ghost use Rattle.chip.specs.Calls as calls;
 ghost use Rattle.chip.specs.Latching as spec;

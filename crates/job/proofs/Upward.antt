@@ -1,19 +1,16 @@
 -- Entries taken in order, one after the other: what is left answers for the whole.
 -- Assumes nothing.
-use mathlib.Core.Path.{_≡_, refl, sym, ap, _∙_}
-use mathlib.Core.Bool.{Bool, true, false, _||_}
+use mathlib.Core.Path.{_≡_, sym, ap}
+use mathlib.Core.Bool.{true, false}
 use mathlib.Core.List.{List, [], _∷_}
-use Prim.Native.Nat.{ℕ, zero, suc, _+_, _-_, _≤_, _<_}
+use Prim.Native.Nat.{ℕ, suc, _+_, _-_, _≤_, _<_}
 use native.Mathlib.Nat.{sub-zero}
 use native.Mathlib.Numerals.{add-one}
 use native.Mathlib.Omega.{arith}
 use borrow.Author.Tests.{lt-ltb, le-ltb, eq-eqb, ne-eqb}
-use lib.Dec.{eqb}
 use Rattle.chip.specs.declared.state.State.{State}
 use Rattle.job.specs.Entries.{entryAt, entriesFrom, badEntry, anyBad, outOfOrder}
 use Rattle.job.specs.Verdicts.{entryNumber, judgedFrom}
-use Rattle.job.specs.declared.entries.Entry.{Entry}
-use Rattle.job.specs.declared.verdicts.Verdict.{Verdict}
 
 module _ (job : List ℕ) (count : ℕ) where
   -- before the first entry all are left

@@ -1,22 +1,19 @@
 -- A rehearsal with enough pulses is the job, and 12,288 pulses are enough for any job that is accepted.
 -- Assumes nothing.
-use mathlib.Core.Path.{_≡_, refl, sym, ap, ap₂, _∙_, subst}
+use mathlib.Core.Path.{_≡_, refl, ap, _∙_}
 use mathlib.Core.Bool.{Bool, true, false, not, _||_, _&&_}
 use mathlib.Core.List.{List, [], _∷_}
 use Prim.Native.Nat.{ℕ, zero, suc, _+_, _-_, _*_, _≤_, zero-le}
-use native.Mathlib.Nat.{le-refl}
 use native.Mathlib.Numerals.{one-add}
 use native.Mathlib.Omega.{arith}
 use borrow.Author.Tests.{le-leb, ltb-false, eqb-true}
 use lib.Bits.{bitAnd}
-use lib.Count.{onesIn}
 use lib.Dec.{eqb, ltb}
 use lib.ListN.{length}
 use Rattle.row.specs.Choice.{if_then_else_}
 use Rattle.row.specs.Code.{setBits, flipped, plain, inverted}
 use Rattle.row.specs.Reading.{dataOf}
 use Rattle.row.specs.Writing.{fits, pulses, burnt, kept, eccWritten, rawWritten}
-use Rattle.row.specs.declared.writing.Written.{Written}
 use Rattle.row.proofs.Counts.{ones-le}
 use Rattle.chip.proofs.Ladders.{never-zero, neither}
 use Rattle.chip.specs.declared.state.State.{State}
@@ -26,7 +23,6 @@ use Rattle.job.specs.Jobs.{carriedOut, runJob, rehearse}
 use Rattle.job.specs.Verdicts.{entryWritten, judgedFrom, verdictOf}
 use Rattle.job.specs.declared.entries.Entry.{Entry}
 use Rattle.job.specs.declared.verdicts.Verdict.{Verdict}
-use Rattle.access.specs.Writes.{Left}
 
 -- ---- a row takes at most 24 pulses
 

@@ -6,7 +6,6 @@ use Rattle.row.specs.Choice.{if_then_else_}
 use Rattle.row.specs.declared.answer.Answer.{Answer}
 use Rattle.row.specs.declared.answer.Condition.the-variants.{Clean}
 use Rattle.chip.specs.declared.state.State.{State}
-use Rattle.chip.specs.declared.state.Outcome.{Outcome}
 use Rattle.access.specs.Writes.{Left}
 use Rattle.job.specs.Burning.{Progress, allWritten, allPulses, rehearsed}
 use Rattle.job.specs.Entries.{countOf, entriesOf}

@@ -33,14 +33,14 @@ pub fn entry_written(old: u32, entry: Entry) -> Written
     write_raw(old, value)
 }
 
-// Whether Secure may write a row.
+// A row, and whether Secure may write it.
 struct Leave {
     row: u32,
     may: bool,
 }
 
-// Whether Secure may write a row. Rows of one page share the answer, so that of the row before is kept where it serves: to look it up
-// is what judging an entry would mostly be.
+// Whether Secure may write a row. Rows of one page share the answer, and to look it up would be most of judging an entry: so that of the
+// row before is kept where it serves.
 fn leave_for(row: u32, before: Leave, state: State) -> Leave
     requires { ⌜ before .may ≡ mayWrite state 0 (before .row) ⌝ }
     ensures { λ r. ⌜ (r .row ≡ row) × (r .may ≡ mayWrite state 0 row) ⌝ }

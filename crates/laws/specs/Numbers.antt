@@ -11,10 +11,9 @@ use Rattle.row.specs.Reading.{dataOf, readRow}
 use Rattle.row.specs.Writing.{fits}
 use Rattle.chip.specs.Keys.{hidden}
 use Rattle.chip.specs.Latching.{allInRange}
-use Rattle.chip.specs.Lists.{entry, listed}
+use Rattle.chip.specs.Lists.{entry}
 use Rattle.chip.specs.Pages.{isLockRow}
 use Rattle.chip.specs.Permission.{mayRead, mayWrite}
-use Rattle.chip.specs.declared.state.State.{State}
 use Rattle.job.specs.Entries.{entriesOf, malformed, outOfOrder}
 use Rattle.job.specs.declared.entries.Entry.{Entry}
 use Rattle.laws.specs.Calls.{Chip, Call, aReset, aRawRead, anEccRead, aVote, aRawWrite, anEccWrite, anAdvance, aShow, aKey, aJob, aRehearsal, perform}

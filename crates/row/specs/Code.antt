@@ -1,5 +1,5 @@
 -- A row with ECC: the code of a value, and the two rows that hold it (document 01, "A row with ECC"; datasheet 13.6).
-use Prim.Native.Nat.{ℕ, suc, _+_, _*_, _%_, _^_}
+use Prim.Native.Nat.{ℕ, suc, _*_, _%_, _^_}
 use mathlib.Core.List.{List, [], _∷_}
 use lib.Bits.{bitAnd, bitOr, bitXor}
 use lib.Count.{onesIn}

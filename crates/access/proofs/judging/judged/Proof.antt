@@ -1,12 +1,9 @@
 -- `access::judging::judged` meets its contract: each answer by the tests that led to it.
 -- Assumes nothing.
 use borrow.Author.Needs.{needs}
-use mathlib.Core.Path.{_≡_, sym, ap, _∙_}
 use denote.Ref.{now}
-use borrow.Author.Tests.{lt-ltb, le-ltb, le-leb, lt-leb, eq-eqb, ne-eqb, not-true, not-false}
-use lib.Dec.{ltb}
+use borrow.Author.Tests.{lt-ltb, le-ltb, not-true, not-false}
 use lib.ListN.{List·getD-eq-default}
-use Rattle.chip.specs.Lists.{entry}
 use Rattle.access.proofs.judging.judged.Statement.{statement}
 use Rattle.access.proofs.judging.judged.Tie as tie
 

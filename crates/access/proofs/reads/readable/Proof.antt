@@ -1,9 +1,9 @@
 -- `access::reads::readable` meets its contract: a number that is not 0 is a refusal, and 0 reads the row.
 -- Assumes nothing.
 use borrow.Author.Needs.{needs}
-use mathlib.Core.Path.{_≡_, sym, _∙_}
+use mathlib.Core.Path.{sym, _∙_}
 use denote.Ref.{now}
-use mathlib.Core.Bool.{true, false}
+use mathlib.Core.Bool.{false}
 use borrow.Author.Tests.{eq-eqb, ne-eqb}
 use Rattle.access.proofs.Passing.{row-passed}
 use Rattle.access.proofs.reads.readable.Statement.{statement}

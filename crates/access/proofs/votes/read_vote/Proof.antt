@@ -3,13 +3,13 @@
 use borrow.Author.Needs.{needs}
 use mathlib.Core.Path.{sym, ap, ap₂, _∙_}
 use denote.Ref.{now}
-use borrow.Author.Tests.{lt-ltb, le-ltb, eq-eqb, ne-eqb, not-true, not-false}
+use borrow.Author.Tests.{eq-eqb, ne-eqb}
 use Prim.Native.Nat.{ℕ}
 use mathlib.Core.List.{List}
 use Rattle.row.specs.Answers.{found}
 use Rattle.row.specs.Voting.{vote, threshold}
 use Rattle.row.specs.declared.answer.Condition.the-variants.{Clean}
-use Rattle.access.specs.Reads.{readVote, group}
+use Rattle.access.specs.Reads.{readVote}
 use Rattle.access.proofs.Passing.{vote-passed}
 use Rattle.access.proofs.Upward.{count-low}
 use Rattle.access.proofs.votes.read_vote.Statement.{statement}

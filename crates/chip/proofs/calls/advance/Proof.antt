@@ -1,10 +1,9 @@
 -- `chip::calls::advance` meets its contract: a number that is not 0 is a refusal, and 0 leaves what `advanced` says.
 -- Assumes nothing.
 use borrow.Author.Needs.{needs}
-use mathlib.Core.Path.{_≡_, sym, ap, _∙_}
-use Prim.Native.Nat.{ℕ, _≤_}
-use borrow.Author.Tests.{eq-eqb, ne-eqb, ltb-false, not-false}
-use Rattle.chip.specs.Calls.{advance, advanceNumber}
+use mathlib.Core.Path.{sym, _∙_}
+use borrow.Author.Tests.{eq-eqb, ne-eqb}
+use Rattle.chip.specs.Calls.{advance}
 use Rattle.chip.proofs.Ladders.{advance-passed}
 use Rattle.chip.proofs.calls.advance.Statement.{statement}
 use Rattle.chip.proofs.calls.advance.Tie as tie

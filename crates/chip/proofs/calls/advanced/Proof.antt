@@ -1,9 +1,9 @@
 -- `chip::calls::advanced` meets its contract: each answer by the tests that led to it.
 -- Assumes nothing.
 use borrow.Author.Needs.{needs}
-use borrow.Author.Tests.{lt-ltb, le-ltb, le-leb, lt-leb, eq-eqb, ne-eqb}
+use borrow.Author.Tests.{le-leb, lt-leb, eq-eqb, ne-eqb}
 use mathlib.Core.Path.{_≡_, sym, ap, _∙_}
-use mathlib.Core.Bool.{true, false}
+use mathlib.Core.Bool.{false}
 use lib.Dec.{leb}
 use Rattle.chip.specs.Calls.{shownLevel}
 use Rattle.chip.proofs.calls.advanced.Statement.{statement}

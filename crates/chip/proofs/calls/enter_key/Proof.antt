@@ -1,9 +1,9 @@
 -- `chip::calls::enter_key` meets its contract: a number that is not 0 is a refusal, and 0 leaves the words of the key.
 -- Assumes nothing.
 use borrow.Author.Needs.{needs}
-use mathlib.Core.Path.{_≡_, sym, ap, _∙_}
-use borrow.Author.Tests.{eq-eqb, ne-eqb, ltb-false, not-false}
-use Rattle.chip.specs.Calls.{enterKey, enterNumber}
+use mathlib.Core.Path.{sym, _∙_}
+use borrow.Author.Tests.{eq-eqb, ne-eqb}
+use Rattle.chip.specs.Calls.{enterKey}
 use denote.Ref.{now}
 use Rattle.chip.proofs.Ladders.{enter-passed}
 use Rattle.chip.proofs.calls.enter_key.Statement.{statement}

@@ -1,6 +1,6 @@
 -- `chip::calls::enter_number` meets its contract: each answer by the tests that led to it.
 -- Assumes nothing.
-use borrow.Author.Tests.{lt-ltb, le-ltb, le-leb, lt-leb, eq-eqb, ne-eqb}
+use borrow.Author.Tests.{lt-ltb, le-ltb, eq-eqb, ne-eqb}
 use Rattle.chip.proofs.calls.enter_number.Statement.{statement}
 use Rattle.chip.proofs.calls.enter_number.Tie as tie
 

@@ -1,13 +1,12 @@
 -- `chip::calls::key_words` meets its contract. The invariant: the words so far are those of the bytes.
 -- Assumes nothing.
 use borrow.Author.Needs.{needs}
-use mathlib.Core.Path.{_≡_, refl, sym, ap, _∙_}
-use Prim.Native.Nat.{ℕ, suc, _+_, _-_, _*_, _/_, _%_, _^_, _≤_, _<_}
+use mathlib.Core.Path.{_≡_, refl}
+use Prim.Native.Nat.{_+_, _-_, _*_, _≤_}
 use native.Mathlib.Omega.{arith}
-use lib.ListN.{length, getD, take, drop}
+use lib.ListN.{length, getD, take}
 use lib.ListN.{length-set}
 use denote.Ref.{now}
-use Rattle.chip.specs.Calls.{keyWords}
 use Rattle.chip.specs.Lists.{listed}
 use Rattle.chip.proofs.Lists.{listed-more, listed-all}
 use Rattle.chip.proofs.calls.key_words.Statement.{statement}

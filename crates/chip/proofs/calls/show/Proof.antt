@@ -1,13 +1,13 @@
 -- `chip::calls::show` meets its contract: a number that is not 0 is a refusal, and 0 shows the level.
 -- Assumes nothing.
 use borrow.Author.Needs.{needs}
-use mathlib.Core.Path.{_≡_, sym, ap, _∙_}
+use mathlib.Core.Path.{sym, ap, _∙_}
 use Prim.Native.Nat.{ℕ, _≤_}
 use native.Mathlib.Omega.{arith}
-use borrow.Author.Tests.{eq-eqb, ne-eqb, ltb-false, not-false}
+use borrow.Author.Tests.{eq-eqb, ne-eqb}
 use Rattle.row.specs.Answers.{found}
 use Rattle.row.specs.declared.answer.Condition.the-variants.{Clean}
-use Rattle.chip.specs.Calls.{showLock, showNumber}
+use Rattle.chip.specs.Calls.{showLock}
 use Rattle.chip.proofs.Ladders.{show-passed}
 use Rattle.chip.proofs.calls.show.Statement.{statement}
 use Rattle.chip.proofs.calls.show.Tie as tie

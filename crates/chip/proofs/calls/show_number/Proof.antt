@@ -1,6 +1,6 @@
 -- `chip::calls::show_number` meets its contract: each answer by the tests that led to it.
 -- Assumes nothing.
-use borrow.Author.Tests.{lt-ltb, le-ltb, le-leb, lt-leb, eq-eqb, ne-eqb}
+use borrow.Author.Tests.{lt-ltb, le-ltb}
 use Rattle.chip.proofs.calls.show_number.Statement.{statement}
 use Rattle.chip.proofs.calls.show_number.Tie as tie
 

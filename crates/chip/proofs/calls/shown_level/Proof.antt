@@ -1,7 +1,7 @@
 -- `chip::calls::shown_level` meets its contract, by the domain and the contract of `counted_level`.
 -- Assumes nothing.
 use borrow.Author.Needs.{needs}
-use borrow.Author.Tests.{lt-ltb, le-ltb, le-leb, lt-leb, eq-eqb, ne-eqb}
+use borrow.Author.Tests.{eq-eqb, ne-eqb}
 use Rattle.chip.proofs.calls.shown_level.Statement.{statement}
 use Rattle.chip.proofs.calls.shown_level.Tie as tie
 

@@ -1,11 +1,10 @@
 -- `chip::keys::hidden` meets its contract: each answer by the tests that led to it.
 -- Assumes nothing.
 use borrow.Author.Needs.{needs}
-use borrow.Author.Tests.{lt-ltb, le-ltb, le-leb, lt-leb, eq-eqb, ne-eqb}
-use mathlib.Core.Path.{_≡_, ap}
-use Prim.Native.Nat.{ℕ, _+_, _-_, _/_}
+use borrow.Author.Tests.{lt-ltb, le-ltb, le-leb, lt-leb}
+use mathlib.Core.Path.{_≡_}
+use Prim.Native.Nat.{_+_, _-_, _/_}
 use native.Mathlib.Omega.{arith}
-use lib.ListN.{getD}
 use Rattle.chip.specs.Keys.{hidden}
 use Rattle.chip.proofs.keys.hidden.Statement.{statement}
 use Rattle.chip.proofs.keys.hidden.Tie as tie

@@ -1,13 +1,12 @@
 -- `chip::keys::key_level` meets its contract: each answer by the tests that led to it.
 -- Assumes nothing.
 use borrow.Author.Needs.{needs}
-use mathlib.Core.Path.{_≡_, sym, ap, ap₂, _∙_}
-use mathlib.Core.Bool.{true, false, _&&_}
+use mathlib.Core.Path.{_≡_}
+use mathlib.Core.Bool.{false, _&&_}
 use mathlib.Core.Logic.{⊎-elim}
 use borrow.Author.Tests.{eq-eqb, ne-eqb}
 use lib.Dec.{eqb}
 use Rattle.chip.specs.Keys.{matches, keyLevel}
-use Rattle.chip.specs.States.{countedIndex, countedNoKey}
 use Rattle.chip.proofs.keys.key_level.Statement.{statement}
 use Rattle.chip.proofs.keys.key_level.Tie as tie
 

@@ -5,7 +5,7 @@ use mathlib.Core.Path.{_≡_, sym, ap, _∙_}
 use mathlib.Core.Bool.{true, false, not}
 use borrow.Author.Tests.{lt-leb, le-leb}
 use borrow.Author.Tests.{not-true, not-false}
-use Rattle.chip.specs.Keys.{keyAt, noKey}
+use Rattle.chip.specs.Keys.{keyAt}
 use Rattle.chip.specs.Lists.{same}
 use Rattle.chip.specs.Keys.{matches}
 use Rattle.chip.proofs.keys.matches.Statement.{statement}

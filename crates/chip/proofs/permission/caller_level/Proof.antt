@@ -1,7 +1,7 @@
 -- `chip::permission::caller_level` meets its contract, by the caller and the contracts of `owner` and `counted_level`.
 -- Assumes nothing.
 use borrow.Author.Needs.{needs}
-use borrow.Author.Tests.{lt-ltb, le-ltb, le-leb, lt-leb, eq-eqb, ne-eqb}
+use borrow.Author.Tests.{eq-eqb, ne-eqb}
 use Rattle.chip.proofs.permission.caller_level.Statement.{statement}
 use Rattle.chip.proofs.permission.caller_level.Tie as tie
 

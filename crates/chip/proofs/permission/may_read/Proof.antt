@@ -1,10 +1,8 @@
 -- `chip::permission::may_read` meets its contract: the higher of two levels is at most 1 if both are.
 -- Assumes nothing.
 use borrow.Author.Needs.{needs}
-use mathlib.Core.Path.{_≡_, sym, ap, _∙_}
-use mathlib.Core.Bool.{true, false}
-use borrow.Author.Tests.{lt-ltb, le-ltb, le-leb, lt-leb, eq-eqb, ne-eqb}
-use lib.Dec.{leb}
+use mathlib.Core.Path.{sym}
+use borrow.Author.Tests.{le-leb, lt-leb}
 use Rattle.chip.specs.Permission.{mayRead}
 use Rattle.chip.proofs.Orders.{max-low, max-high}
 use Rattle.chip.proofs.permission.may_read.Statement.{statement}

@@ -1,13 +1,8 @@
 -- `chip::permission::may_write` meets its contract: each answer by the tests that led to it.
 -- Assumes nothing.
 use borrow.Author.Needs.{needs}
-use mathlib.Core.Path.{_≡_, sym, ap, _∙_}
-use mathlib.Core.Bool.{true, false}
-use borrow.Author.Tests.{lt-ltb, le-ltb, le-leb, lt-leb, eq-eqb, ne-eqb}
-use lib.Dec.{eqb}
-use Rattle.chip.specs.Pages.{owner}
-use Rattle.chip.specs.Permission.{mayWrite, callerLevel}
-use Rattle.chip.specs.States.{countedLevel}
+use borrow.Author.Tests.{eq-eqb, ne-eqb}
+use Rattle.chip.specs.Permission.{mayWrite}
 use Rattle.chip.proofs.permission.may_write.Statement.{statement}
 use Rattle.chip.proofs.permission.may_write.Tie as tie
 

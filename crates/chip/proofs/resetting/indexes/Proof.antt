@@ -2,15 +2,15 @@
 -- Assumes nothing.
 use borrow.Author.Needs.{needs}
 use mathlib.Core.Path.{_≡_, refl, ap, _∙_}
-use Prim.Native.Nat.{ℕ, suc, _+_, _-_, _*_, _/_, _%_, _^_, _≤_, _<_}
+use Prim.Native.Nat.{ℕ, _+_, _-_, _*_, _/_, _%_, _^_, _≤_}
 use native.Mathlib.Omega.{arith}
-use lib.ListN.{length, getD, take, drop}
+use lib.ListN.{length, take}
 use lib.ListN.{length-set}
 use denote.Ref.{now}
 use mathlib.Core.List.{List}
 use lib.ListN.{set}
 use Rattle.chip.specs.Lists.{entry, listed}
-use Rattle.chip.specs.Locks.{votedByte, levelOf, noKeyField}
+use Rattle.chip.specs.Locks.{votedByte}
 use Rattle.chip.proofs.Lists.{listed-more, listed-all}
 use Rattle.chip.proofs.resetting.indexes.Statement.{statement}
 use Rattle.chip.proofs.resetting.indexes.Tie as tie

@@ -4,15 +4,11 @@ use borrow.Author.Needs.{needs}
 use denote.Ref.{now}
 use mathlib.Core.Path.{_≡_, refl, sym, ap, _∙_, subst}
 use mathlib.Core.Logic.{⊎-elim}
-use mathlib.Core.List.{List}
-use Prim.Native.Nat.{ℕ, suc, _+_, _-_, _*_, _/_, _%_, _^_, _≤_, _<_}
+use Prim.Native.Nat.{ℕ, _+_, _-_, _%_, _≤_}
 use native.Mathlib.Omega.{arith}
-use lib.ListN.{length, getD, take, set, length-set}
+use lib.ListN.{length, take, set, length-set}
 use native.Mathlib.Nat.{mod-eq-of-lt}
-use Rattle.row.specs.Reading.{readRow}
-use lib.Dec.{eqb}
-use Rattle.chip.specs.Keys.{keyRow, validRow}
-use Rattle.chip.specs.Locks.{votedByte}
+use Rattle.chip.specs.Keys.{keyRow}
 use Rattle.row.specs.declared.answer.Answer.{Answer}
 use Rattle.row.proofs.Syndromes.{read-lt}
 use Rattle.chip.specs.Keys.{wordOf, allDecode}

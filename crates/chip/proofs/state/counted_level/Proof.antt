@@ -2,10 +2,10 @@
 -- Assumes nothing.
 use borrow.Author.Needs.{needs}
 use mathlib.Core.Path.{_≡_, sym, ap, _∙_}
-use Prim.Native.Nat.{ℕ, suc, _≤_, _<_, min}
-use native.Mathlib.Nat.{min-eq-left, min-eq-right, le-trans, le-of-eq}
+use Prim.Native.Nat.{ℕ, min}
+use native.Mathlib.Nat.{min-eq-left, min-eq-right}
 use native.Mathlib.Omega.{arith}
-use lib.ListN.{length, getD, List·getD-eq-default}
+use lib.ListN.{length, List·getD-eq-default}
 use Rattle.chip.proofs.Lists.{getD-in}
 use Rattle.chip.proofs.state.counted_level.Statement.{statement}
 use Rattle.chip.proofs.state.counted_level.Tie as tie

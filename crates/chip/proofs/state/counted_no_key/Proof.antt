@@ -1,12 +1,10 @@
 -- `chip::state::counted_no_key` meets its contract: past page 63 stands nothing.
 -- Assumes nothing.
 use borrow.Author.Needs.{needs}
-use mathlib.Core.Bool.{Bool, false}
-use mathlib.Core.Path.{_≡_, sym, ap, _∙_}
-use Prim.Native.Nat.{ℕ, suc, _≤_, _<_, min}
-use native.Mathlib.Nat.{min-eq-left, min-eq-right, le-trans, le-of-eq}
+use mathlib.Core.Bool.{false}
+use mathlib.Core.Path.{_≡_, sym}
 use native.Mathlib.Omega.{arith}
-use lib.ListN.{length, getD, List·getD-eq-default}
+use lib.ListN.{length, List·getD-eq-default}
 use Rattle.chip.proofs.state.counted_no_key.Statement.{statement}
 use Rattle.chip.proofs.state.counted_no_key.Tie as tie
 

@@ -1,7 +1,7 @@
 -- `job::burning::burnt_upward` meets its contract, by those of `flipped` and `lowest`.
 -- Assumes nothing.
 use borrow.Author.Needs.{needs}
-use mathlib.Core.Path.{_≡_, refl, sym, ap, _∙_}
+use mathlib.Core.Path.{ap, _∙_}
 use Prim.Native.Nat.{ℕ}
 use lib.Bits.{bitAnd, bitOr}
 use Rattle.job.specs.Burning.{lowestBelow, burntUpward}

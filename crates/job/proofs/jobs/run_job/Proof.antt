@@ -2,9 +2,7 @@
 -- Assumes nothing.
 use borrow.Author.Needs.{needs}
 use denote.Ref.{now}
-use mathlib.Core.List.{List}
 use mathlib.Core.Path.{ap, _∙_}
-use Prim.Native.Nat.{ℕ}
 use Rattle.access.specs.Writes.{Left}
 use Rattle.job.proofs.Whole.{whole-job}
 use Rattle.job.proofs.jobs.run_job.Statement.{statement}

@@ -3,14 +3,14 @@
 -- Assumes nothing.
 use borrow.Author.Needs.{needs}
 use denote.Ref.{now}
-use mathlib.Core.Path.{_≡_, refl, sym, ap, _∙_}
-use Prim.Native.Nat.{ℕ, suc, _+_, _-_, _*_, _/_, _%_, _^_, _≤_, _<_}
+use mathlib.Core.Path.{_≡_, sym, ap, _∙_}
+use Prim.Native.Nat.{ℕ, _-_, _≤_}
 use native.Mathlib.Omega.{arith}
 use mathlib.Core.Bool.{Bool}
 use mathlib.Core.List.{List}
 use Rattle.chip.specs.Permission.{mayWrite}
 use Rattle.chip.specs.declared.state.State.{State}
-use Rattle.job.specs.Entries.{entryAt, entriesFrom}
+use Rattle.job.specs.Entries.{entriesFrom}
 use Rattle.job.specs.declared.entries.Entry.{Entry}
 use Rattle.job.specs.Verdicts.{numberIf, entryNumber, judgedFrom}
 use Rattle.job.specs.declared.verdicts.Verdict.{Verdict}

@@ -1,8 +1,7 @@
 -- `job::verdicts::leave_for` meets its contract: who may write a row goes by the page that owns it.
 -- Assumes nothing.
 use borrow.Author.Needs.{needs}
-use mathlib.Core.Path.{_≡_, refl, sym, ap, _∙_}
-use mathlib.Core.Bool.{Bool}
+use mathlib.Core.Path.{_≡_, refl, sym, _∙_}
 use Prim.Native.Nat.{ℕ}
 use Rattle.chip.specs.Pages.{owner}
 use Rattle.chip.specs.Permission.{mayWrite}

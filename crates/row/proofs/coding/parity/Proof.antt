@@ -1,6 +1,6 @@
 -- `row::coding::parity` meets its contract: each fold keeps the parity, and at the end one bit is left.
 -- Assumes nothing.
-use mathlib.Core.Path.{_≡_, sym, ap, _∙_}
+use mathlib.Core.Path.{sym, ap, _∙_}
 use Prim.Native.Nat.{ℕ, _%_}
 use native.Mathlib.Nat.{add-zero, mod-mod}
 use lib.Count.{onesIn}

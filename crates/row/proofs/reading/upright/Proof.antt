@@ -1,7 +1,6 @@
 -- `row::reading::upright` meets its contract, by the test of bits 23 and 22.
 -- Assumes nothing.
 use borrow.Author.Needs.{needs}
-use mathlib.Core.Path.{_∙_}
 use borrow.Author.Tests.{eq-eqb, ne-eqb}
 use Rattle.row.proofs.reading.upright.Statement.{statement}
 use Rattle.row.proofs.reading.upright.Tie as tie

@@ -3,13 +3,13 @@
 use borrow.Author.Needs.{needs}
 use mathlib.Core.List.{List}
 use mathlib.Core.Path.{_≡_, refl, sym, ap, ap₂, _∙_}
-use Prim.Native.Nat.{ℕ, suc, _+_, _-_, _*_, _^_, _≤_, _<_}
+use Prim.Native.Nat.{ℕ, _+_, _-_, _^_, _≤_, _<_}
 use native.Mathlib.Omega.{arith}
-use lib.ListN.{length, getD, take}
-use native.Mathlib.Nat.{one-mul, le-trans, lt-of-lt-of-le, add-lt-add-of-le-of-lt}
+use lib.ListN.{take}
+use native.Mathlib.Nat.{one-mul}
 use mathlib.Core.Logic.{inl, inr, ⊎-elim}
 use lib.Dec.{lit<}
-use lib.Pow.{shl-exact, pow-mono, add-lt-pow, pow-lt}
+use lib.Pow.{shl-exact, pow-mono}
 use Rattle.row.specs.Voting.{vote}
 use Rattle.row.proofs.Votes.{voted-lt, voted-set, voted-clear, counted-rows}
 use Rattle.row.specs.Voting.{votedBelow}

@@ -1,7 +1,7 @@
 -- `row::writing::pulses` meets its contract: the language counts the set bits of all 32 places, and only 24 are left to count.
 -- Assumes nothing.
 use borrow.Author.Needs.{needs}
-use mathlib.Core.Path.{_≡_, ap, _∙_}
+use mathlib.Core.Path.{ap, _∙_}
 use Prim.Native.Nat.{ℕ, _%_, _^_}
 use native.Mathlib.Nat.{mod-lt}
 use lib.Bits.{bitAnd}

@@ -3,8 +3,7 @@
 use borrow.Author.Needs.{needs}
 use Prim.Native.Nat.{_-_, _≤_}
 use mathlib.Core.Path.{_≡_}
-use native.Mathlib.Omega.{arith}
-use lib.ListN.{length, length-set}
+use lib.ListN.{length}
 use Rattle.worked.proofs.job_cuts.long_job.Statement.{statement}
 use Rattle.worked.proofs.job_cuts.long_job.Tie as tie
 

@@ -1,7 +1,7 @@
 -- `chip::pages::Page::owner` meets its contract: each answer by the tests that led to it.
 -- Assumes nothing.
 use borrow.Author.Needs.{needs}
-use borrow.Author.Tests.{lt-ltb, le-ltb, le-leb, lt-leb, eq-eqb, ne-eqb}
+use borrow.Author.Tests.{lt-ltb, le-ltb, le-leb, lt-leb}
 use Rattle.chip.proofs.pages.Page.owner.Statement.{statement}
 use Rattle.chip.proofs.pages.Page.owner.Tie as tie
 
