@@ -49,7 +49,7 @@ impl Chip for Model {
     fn write_raw(&self, rows: &mut [u32], state: State, caller: u32, row: u32, value: u32) -> Outcome {
         let new = self.raw_write(rows, &state, caller, row, value);
         Outcome {
-            answer: self.write(rows, row, new),
+            answer: new.map_or_else(Answer::refused, |new| self.write(rows, row, new)),
             state,
         }
     }
@@ -57,7 +57,7 @@ impl Chip for Model {
     fn write_ecc(&self, rows: &mut [u32], state: State, caller: u32, row: u32, value: u32) -> Outcome {
         let new = self.ecc_write(rows, &state, caller, row, value);
         Outcome {
-            answer: self.write(rows, row, new),
+            answer: new.map_or_else(Answer::refused, |new| self.write(rows, row, new)),
             state,
         }
     }

@@ -1,18 +1,24 @@
 //! A second reading of document 01, and the means to compare it with the library.
 //!
-//! The model is in `model` and `calls`, with its subjects in `code`, `locks`, `keys` and `jobs`. The library is in
-//! `face`, behind the child process of `driver` and the bytes of `wire`.
+//! The model goes in one line, from the row up: `row`, `code`, `locks`, `keys`, `permission`, `model`, `access`, `latches`,
+//! `jobs`, `calls`. Each uses only those before it, and what has no rule in it: `shape`, `fault` and `ladder`. The library is
+//! in `face`, behind the child process of `driver` and the bytes of `wire`.
 //! Everything else draws calls, makes them on both sides and compares what comes back.
 
 pub mod shape;
 
+pub mod access;
 pub mod calls;
 pub mod code;
 pub mod fault;
 pub mod jobs;
 pub mod keys;
+pub mod ladder;
+pub mod latches;
 pub mod locks;
 pub mod model;
+pub mod permission;
+pub mod row;
 
 pub mod plain;
 

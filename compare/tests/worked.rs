@@ -137,18 +137,24 @@ fn one_flip_is_corrected_and_a_lost_polarity_bit_is_refused() {
         let inverted = plain ^ LARGEST;
         for row in [plain, inverted] {
             assert_eq!(
-                model.decode(row).map(|near| (u32::from(near.value), near.repaired)),
+                model
+                    .codes
+                    .decode(row)
+                    .map(|near| (u32::from(near.value), near.repaired)),
                 Some((value, None))
             );
             for place in 0..22u8 {
-                let near = model.decode(row ^ 1 << place).expect("one flip is corrected");
+                let near = model.codes.decode(row ^ 1 << place).expect("one flip is corrected");
                 assert_eq!((u32::from(near.value), near.repaired), (value, Some(place)));
             }
         }
         for place in [22, 23] {
-            let near = model.decode(plain ^ 1 << place).expect("a plain row takes no harm");
+            let near = model
+                .codes
+                .decode(plain ^ 1 << place)
+                .expect("a plain row takes no harm");
             assert_eq!((u32::from(near.value), near.repaired), (value, None));
-            assert_eq!(model.decode(inverted ^ 1 << place), None);
+            assert_eq!(model.codes.decode(inverted ^ 1 << place), None);
         }
     }
 }
@@ -157,12 +163,12 @@ fn one_flip_is_corrected_and_a_lost_polarity_bit_is_refused() {
 fn at_most_one_bit_beforehand_is_never_refused() {
     let model = Model::sound();
     for value in 0..=0xffff {
-        assert!(model.polarity(value, 0).is_some());
+        assert!(model.codes.polarity(value, 0).is_some());
         for place in 0..24 {
             let old = 1 << place;
-            let new = model.polarity(value, old).expect("one of the two fits");
+            let new = model.codes.polarity(value, old).expect("one of the two fits");
             assert_eq!(new & old, old);
-            assert_eq!(model.decode(new).map(|near| u32::from(near.value)), Some(value));
+            assert_eq!(model.codes.decode(new).map(|near| u32::from(near.value)), Some(value));
         }
     }
 }
