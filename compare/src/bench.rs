@@ -1,8 +1,8 @@
 //! Makes each call on both sides and compares everything that comes back: the answer, the state, every row.
 
-use crate::call::Call;
+use crate::call::{Call, Chip};
 use crate::locks::owner;
-use crate::shape::{Answer, Chip, Outcome, State, ROWS};
+use crate::shape::{Answer, Outcome, State, ROWS};
 use crate::tally::Tally;
 
 /// The rows lie in a longer buffer, so that a slice can be too long and a stray write is seen.
@@ -60,8 +60,8 @@ impl<'a> Bench<'a> {
     /// Makes the call with a slice of the given length.
     pub fn call_with(&mut self, call: &Call, length: usize) -> Result<Answer, Difference> {
         let setting = call.rows().map_or(String::new(), |(row, _)| self.setting(row));
-        let theirs = call.make(self.library, &mut self.theirs[..length], self.state);
-        let ours = call.make(self.model, &mut self.ours[..length], self.state);
+        let theirs = self.library.make(call, &mut self.theirs[..length], self.state);
+        let ours = self.model.make(call, &mut self.ours[..length], self.state);
         self.tally.note(call.index(), theirs.answer.number);
         let found = outcomes(&theirs, &ours).or_else(|| self.row_differs());
         if let Some(found) = found {

@@ -4,6 +4,7 @@
 use std::io::{self, BufReader, Read, Write};
 use std::process::{Child, ChildStdin, ChildStdout, Command, Stdio};
 
+use crate::call::{Back, Call};
 use crate::shape::{Answer, State};
 use crate::wire;
 
@@ -12,19 +13,7 @@ const IMAGE: usize = 8192;
 /// Room for a reply with some thousand entries.
 const BUFFER: usize = 1 << 16;
 
-/// A call as the driver takes it.
-pub struct Request<'a> {
-    /// Its place in the list of calls.
-    pub call: usize,
-    /// Whether it answers a state.
-    pub outcome: bool,
-    pub rows: &'a [u32],
-    pub state: &'a State,
-    pub arguments: [u32; 4],
-    pub bytes: &'a [u8],
-}
-
-/// What came back: the state is there if the request's call answers one.
+/// What came back: the state is there if the call gives one back.
 pub struct Reply {
     pub answer: Answer,
     pub state: Option<State>,
@@ -63,31 +52,31 @@ impl Driver {
         })
     }
 
-    /// Makes one call.
-    pub fn ask(&mut self, request: &Request) -> Result<Reply, String> {
-        self.write_down(request);
+    /// Makes one call on these rows.
+    pub fn ask(&mut self, call: &Call, rows: &[u32], state: &State) -> Result<Reply, String> {
+        self.write_down(call, rows, state);
         let sent = self.send();
         sent.map_err(|error| self.lost(error))?;
-        self.receive(request.outcome)
+        self.receive(call.kind().back)
     }
 
     /// The request's bytes. Only the entries that the driver's image lacks are among them.
-    fn write_down(&mut self, request: &Request) {
-        let differ: Vec<usize> = differences(request.rows, &self.image);
+    fn write_down(&mut self, call: &Call, rows: &[u32], state: &State) {
+        let differ: Vec<usize> = differences(rows, &self.image);
         self.request.clear();
-        for count in [request.call, request.rows.len(), differ.len(), request.bytes.len()] {
+        for count in [call.index(), rows.len(), differ.len(), call.bytes().len()] {
             wire::put_number(&mut self.request, count as u32);
         }
-        for argument in request.arguments {
-            wire::put_number(&mut self.request, argument);
+        for number in call.numbers() {
+            wire::put_number(&mut self.request, number);
         }
-        wire::put_state(&mut self.request, request.state);
+        wire::put_state(&mut self.request, state);
         for place in differ {
-            self.image[place] = request.rows[place];
+            self.image[place] = rows[place];
             wire::put_number(&mut self.request, place as u32);
-            wire::put_number(&mut self.request, request.rows[place]);
+            wire::put_number(&mut self.request, rows[place]);
         }
-        self.request.extend(request.bytes);
+        self.request.extend(call.bytes());
     }
 
     fn send(&mut self) -> io::Result<()> {
@@ -97,12 +86,12 @@ impl Driver {
         }
     }
 
-    fn receive(&mut self, outcome: bool) -> Result<Reply, String> {
+    fn receive(&mut self, back: Back) -> Result<Reply, String> {
         let count = wire::number(&self.read()?);
         let answer = wire::answer(&self.read()?);
-        let state = match outcome {
-            true => Some(wire::state(&self.read()?)?),
-            false => None,
+        let state = match back {
+            Back::State => Some(wire::state(&self.read()?)?),
+            Back::Answer => None,
         };
         let mut changed = Vec::new();
         for _ in 0..count {

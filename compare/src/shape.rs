@@ -1,4 +1,4 @@
-//! The shapes that cross the interface, and the one trait that the library and the model both offer.
+//! The shapes that cross the interface.
 
 /// How many rows a chip has.
 pub const ROWS: usize = 4096;
@@ -83,19 +83,4 @@ impl State {
 pub struct Outcome {
     pub answer: Answer,
     pub state: State,
-}
-
-/// The eleven calls.
-pub trait Chip {
-    fn reset(&self, rows: &[u32], state: State) -> Outcome;
-    fn read_raw(&self, rows: &[u32], state: State, caller: u32, row: u32) -> Answer;
-    fn read_ecc(&self, rows: &[u32], state: State, caller: u32, row: u32) -> Answer;
-    fn read_vote(&self, rows: &[u32], state: State, caller: u32, row: u32, count: u32) -> Answer;
-    fn write_raw(&self, rows: &mut [u32], state: State, caller: u32, row: u32, value: u32) -> Outcome;
-    fn write_ecc(&self, rows: &mut [u32], state: State, caller: u32, row: u32, value: u32) -> Outcome;
-    fn advance(&self, state: State, caller: u32, domain: u32, page: u32, level: u32) -> Outcome;
-    fn show(&self, state: State, caller: u32, domain: u32, page: u32) -> Answer;
-    fn enter_key(&self, state: State, caller: u32, key: &[u8]) -> Outcome;
-    fn run_job(&self, rows: &mut [u32], state: State, job: &[u8]) -> Outcome;
-    fn rehearse(&self, rows: &mut [u32], state: State, job: &[u8], limit: u32) -> Outcome;
 }
