@@ -3,6 +3,7 @@
 //! The model goes in one line, from the row up: `row`, `code`, `locks`, `keys`, `permission`, `model`, `access`, `latches`,
 //! `jobs`, `calls`. Each uses only those before it, and what has no rule in it: `shape`, `fault` and `ladder`. The library is
 //! in `face`, behind the child process of `driver` and the bytes of `wire`.
+//! `plain` is for timings alone, and is not there when the comparison is built.
 //! Everything else draws calls, makes them on both sides and compares what comes back.
 
 pub mod shape;
@@ -20,6 +21,7 @@ pub mod model;
 pub mod permission;
 pub mod row;
 
+#[cfg(any(feature = "timings", feature = "self-test"))]
 pub mod plain;
 
 #[cfg(not(feature = "self-test"))]

@@ -1,4 +1,4 @@
-//! The calls on a row or a vote group.
+//! For timings alone: the calls on a row or a vote group.
 
 use crate::plain::chip::{hidden, may_read, may_write};
 use crate::plain::{answer, burnt, refuse_if, row as one, Refusal};

@@ -1,4 +1,4 @@
-//! Jobs: judged whole, then burnt, to the end or to a limit.
+//! For timings alone: jobs, judged whole, then burnt, to the end or to a limit.
 
 use crate::plain::chip::may_write;
 use crate::plain::{answer, burnt, refuse_if, row as one, Refusal};
