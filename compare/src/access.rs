@@ -7,7 +7,7 @@ use crate::ladder::need;
 use crate::model::Model;
 use crate::permission::{may_read, may_write};
 use crate::row::{newly_set, vote};
-use crate::shape::{Answer, State, LARGEST, LOCK_ROWS, ROWS};
+use crate::shape::{Answer, State, CALLERS, LARGEST, LOCK_ROWS, ROWS};
 
 impl Model {
     /// The refusals that one row meets once its number is good: 6, 7, 3. Gives the row's entry.
@@ -30,14 +30,14 @@ impl Model {
 
     pub fn raw_read(&self, rows: &[u32], state: &State, caller: u32, row: u32) -> Result<u32, u32> {
         need(rows.len() == ROWS, 1)?;
-        need(caller <= 1, 4)?;
+        need(caller < CALLERS, 4)?;
         need(row <= 4095, 2)?;
         self.entry_to_read(rows, state, caller, row)
     }
 
     pub fn ecc_read(&self, rows: &[u32], state: &State, caller: u32, row: u32) -> Result<Near, u32> {
         need(rows.len() == ROWS, 1)?;
-        need(caller <= 1, 4)?;
+        need(caller < CALLERS, 4)?;
         need(row <= 4095, 2)?;
         need(row < LOCK_ROWS, 5)?;
         let entry = self.entry_to_read(rows, state, caller, row)?;
@@ -46,7 +46,7 @@ impl Model {
 
     pub fn vote(&self, rows: &[u32], state: &State, caller: u32, row: u32, count: u32) -> Result<u32, u32> {
         need(rows.len() == ROWS, 1)?;
-        need(caller <= 1, 4)?;
+        need(caller < CALLERS, 4)?;
         need(count == 3 || count == 8, 4)?;
         let end = u64::from(row) + u64::from(count);
         need(end <= 4096, 2)?;
@@ -66,7 +66,7 @@ impl Model {
     /// What a raw write leaves in the row, and its refusals.
     pub fn raw_write(&self, rows: &[u32], state: &State, caller: u32, row: u32, value: u32) -> Result<u32, u32> {
         need(rows.len() == ROWS, 1)?;
-        need(caller <= 1, 4)?;
+        need(caller < CALLERS, 4)?;
         need(value <= LARGEST, 4)?;
         need(row <= 4095, 2)?;
         let old = self.entry_to_write(rows, state, caller, row)?;
@@ -76,7 +76,7 @@ impl Model {
     /// What an ECC write leaves in the row, and its refusals.
     pub fn ecc_write(&self, rows: &[u32], state: &State, caller: u32, row: u32, value: u32) -> Result<u32, u32> {
         need(rows.len() == ROWS, 1)?;
-        need(caller <= 1, 4)?;
+        need(caller < CALLERS, 4)?;
         need(value <= 0xffff, 4)?;
         need(row <= 4095, 2)?;
         need(row < LOCK_ROWS, 5)?;
@@ -89,9 +89,6 @@ impl Model {
         let old = rows[row as usize];
         rows[row as usize] = new;
         let counted = if self.has(Fault::PulsesOfTarget) { 0 } else { old };
-        Answer {
-            pulses: newly_set(counted, new),
-            ..Answer::default()
-        }
+        Answer::burnt(0, newly_set(counted, new))
     }
 }

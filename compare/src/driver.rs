@@ -5,8 +5,8 @@ use std::io::{self, BufReader, Read, Write};
 use std::process::{Child, ChildStdin, ChildStdout, Command, Stdio};
 
 use crate::call::{Back, Call};
+use crate::part::Part;
 use crate::shape::{Answer, State};
-use crate::wire;
 
 /// How many entries the driver's image has.
 const IMAGE: usize = 8192;
@@ -27,7 +27,9 @@ pub struct Driver {
     output: BufReader<ChildStdout>,
     /// The driver's image, as it stands there.
     image: Vec<u32>,
+    /// The bytes of the request, and of the part of a reply that is being read.
     request: Vec<u8>,
+    part: Vec<u8>,
 }
 
 impl Driver {
@@ -49,6 +51,7 @@ impl Driver {
             output: BufReader::with_capacity(BUFFER, output),
             image: vec![0; IMAGE],
             request: Vec::with_capacity(BUFFER),
+            part: Vec::new(),
         })
     }
 
@@ -65,16 +68,16 @@ impl Driver {
         let differ: Vec<usize> = differences(rows, &self.image);
         self.request.clear();
         for count in [call.index(), rows.len(), differ.len(), call.bytes().len()] {
-            wire::put_number(&mut self.request, count as u32);
+            (count as u32).put(&mut self.request);
         }
         for number in call.numbers() {
-            wire::put_number(&mut self.request, number);
+            number.put(&mut self.request);
         }
-        wire::put_state(&mut self.request, state);
+        state.put(&mut self.request);
         for place in differ {
             self.image[place] = rows[place];
-            wire::put_number(&mut self.request, place as u32);
-            wire::put_number(&mut self.request, rows[place]);
+            (place as u32).put(&mut self.request);
+            rows[place].put(&mut self.request);
         }
         self.request.extend(call.bytes());
     }
@@ -87,16 +90,16 @@ impl Driver {
     }
 
     fn receive(&mut self, back: Back) -> Result<Reply, String> {
-        let count = wire::number(&self.read()?);
-        let answer = wire::answer(&self.read()?);
+        let count: u32 = self.read()?;
+        let answer = self.read()?;
         let state = match back {
-            Back::State => Some(wire::state(&self.read()?)?),
+            Back::State => Some(self.read()?),
             Back::Answer => None,
         };
         let mut changed = Vec::new();
         for _ in 0..count {
-            let place = wire::number(&self.read()?) as usize;
-            let value = wire::number(&self.read()?);
+            let place = self.read::<u32>()? as usize;
+            let value = self.read()?;
             let entry = self
                 .image
                 .get_mut(place)
@@ -107,10 +110,10 @@ impl Driver {
         Ok(Reply { answer, state, changed })
     }
 
-    fn read<const N: usize>(&mut self) -> Result<[u8; N], String> {
-        let mut bytes = [0; N];
-        match self.output.read_exact(&mut bytes) {
-            Ok(()) => Ok(bytes),
+    fn read<T: Part>(&mut self) -> Result<T, String> {
+        self.part.resize(T::SIZE, 0);
+        match self.output.read_exact(&mut self.part) {
+            Ok(()) => T::take(&mut self.part.as_slice()),
             Err(error) => Err(self.lost(error)),
         }
     }

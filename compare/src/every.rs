@@ -1,6 +1,6 @@
 //! Every row value read with ECC, and every ECC value written over each row that has at most one bit set.
 
-use crate::bench::{outcomes, Difference};
+use crate::bench::Difference;
 use crate::call::{Call, Chip};
 use crate::shape::{State, LARGEST, ROWS};
 
@@ -51,7 +51,7 @@ impl Sides<'_> {
         self.calls += 1;
         let (left, right) = (self.theirs[ROW as usize], self.ours[ROW as usize]);
         let rows = (left != right).then(|| format!("the row: library {left:#08x}, model {right:#08x}"));
-        match outcomes(&theirs, &ours).or(rows) {
+        match theirs.differs(&ours).or(rows) {
             Some(found) => Err(Difference(format!(
                 "differs: {call} (the row held {entry:#08x}): {found}"
             ))),

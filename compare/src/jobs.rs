@@ -109,11 +109,7 @@ impl Model {
         if self.has(Fault::PlaceAtLimit) && limit == Some(pulses) {
             place = place.min(last);
         }
-        Answer {
-            place,
-            pulses,
-            ..Answer::default()
-        }
+        Answer::burnt(place, pulses)
     }
 
     /// The entries of a job, or the refusals that name no entry: 1, 10, 11.

@@ -38,9 +38,8 @@ pub fn words(bytes: &[u8]) -> [u16; 8] {
 /// Latches key k. A row that does not decode leaves word 0 and a key that is not whole.
 pub fn latch_key(codes: &Codes, rows: &[u32], k: u32) -> Key {
     let mut key = Key {
-        words: [0; 8],
-        valid: false,
         whole: true,
+        ..Key::default()
     };
     for i in 0..8 {
         match codes.decode(rows[first_row(k) as usize + i]) {

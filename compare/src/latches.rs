@@ -5,7 +5,7 @@ use crate::keys::{latch_key, words};
 use crate::ladder::need;
 use crate::locks::{latch, level};
 use crate::model::Model;
-use crate::shape::{State, LARGEST, NONSECURE, ROWS, SECURE};
+use crate::shape::{State, CALLERS, DOMAINS, LARGEST, NONSECURE, ROWS, SECURE};
 
 impl Model {
     pub fn latched(&self, rows: &[u32], before: &State) -> Result<State, u32> {
@@ -25,7 +25,7 @@ impl Model {
     }
 
     pub fn advanced(&self, before: &State, caller: u32, domain: u32, page: u32, asked: u32) -> Result<State, u32> {
-        need(caller <= 1 && domain <= 1 && page <= 63 && asked <= 2, 4)?;
+        need(caller < CALLERS && domain < DOMAINS && page <= 63 && asked <= 2, 4)?;
         need(caller == SECURE || domain == NONSECURE, 7)?;
         let mut state = *before;
         let present = level(self.fault, before, domain, page as usize);
@@ -41,12 +41,12 @@ impl Model {
     }
 
     pub fn shown(&self, state: &State, caller: u32, domain: u32, page: u32) -> Result<u32, u32> {
-        need(caller <= 1 && domain <= 1 && page <= 63, 4)?;
+        need(caller < CALLERS && domain < DOMAINS && page <= 63, 4)?;
         Ok(level(self.fault, state, domain, page as usize))
     }
 
     pub fn entered(&self, before: &State, caller: u32, key: &[u8]) -> Result<State, u32> {
-        need(caller <= 1 && key.len() == 16, 4)?;
+        need(caller < CALLERS && key.len() == 16, 4)?;
         need(caller == SECURE, 7)?;
         let mut state = *before;
         state.entered = words(key);

@@ -2,10 +2,11 @@
 //!
 //! The model goes in one line, from the row up: `row`, `code`, `locks`, `keys`, `permission`, `model`, `access`, `latches`,
 //! `jobs`, `calls`. Each uses only those before it, and what has no rule in it: `shape`, `fault` and `ladder`. The library is
-//! in `face`, behind the child process of `driver` and the bytes of `wire`.
+//! in `face`, behind the child process of `driver`.
 //! `plain` is for timings alone, and is not there when the comparison is built.
 //! Everything else draws calls, makes them on both sides and compares what comes back.
 
+pub mod part;
 pub mod shape;
 
 pub mod access;
@@ -31,8 +32,6 @@ pub mod face;
 #[cfg(feature = "self-test")]
 #[path = "selftest.rs"]
 pub mod face;
-#[cfg(not(feature = "self-test"))]
-pub mod wire;
 
 pub mod arguments;
 pub mod bench;

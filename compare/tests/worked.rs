@@ -44,15 +44,6 @@ fn repaired(value: u32, bit: u32) -> Answer {
     }
 }
 
-/// A write, a job or a rehearsal that is done. The place of a write is 0.
-fn burnt(place: u32, pulses: u32) -> Answer {
-    Answer {
-        place,
-        pulses,
-        ..Answer::default()
-    }
-}
-
 fn whole_job() -> Call {
     Call::RunJob { job: JOB.to_vec() }
 }
@@ -69,7 +60,7 @@ fn the_twelve_worked_rows() {
     assert_eq!(read(&model, 0x160000), Answer::refused(8));
     assert_eq!(read(&model, 0xdcfffe), clean(1));
     assert_eq!(read(&model, 0x9cfffe), Answer::refused(8));
-    assert_eq!(write(&model, 1, 0x000002), (burnt(0, 19), 0xdcfffe));
+    assert_eq!(write(&model, 1, 0x000002), (Answer::burnt(0, 19), 0xdcfffe));
     assert_eq!(write(&model, 1, 0x000003), (Answer::refused(9), 0x000003));
     assert_eq!(write(&model, 3, 0x230001), (Answer::refused(9), 0x230001));
 }
@@ -79,7 +70,7 @@ fn the_job_on_a_blank_page_makes_four_pulses() {
     let model = Model::sound();
     let mut rows = chip(0);
     let outcome = model.make(&whole_job(), &mut rows, State::blank());
-    assert_eq!(outcome.answer, burnt(1, 4));
+    assert_eq!(outcome.answer, Answer::burnt(1, 4));
     assert_eq!(outcome.state, State::blank());
     assert_eq!(rows, chip(0x230001));
 }
@@ -93,12 +84,12 @@ fn cut_after_two_pulses_and_run_again() {
         job: JOB.to_vec(),
     };
     let cut = model.make(&rehearsal, &mut rows, State::blank());
-    assert_eq!(cut.answer, burnt(0, 2));
+    assert_eq!(cut.answer, Answer::burnt(0, 2));
     assert_eq!(rows, chip(0x010001));
     let reset = model.make(&Call::Reset {}, &mut rows, cut.state);
     assert_eq!(reset.answer, Answer::default());
     let full = model.make(&whole_job(), &mut rows, reset.state);
-    assert_eq!(full.answer, burnt(1, 2));
+    assert_eq!(full.answer, Answer::burnt(1, 2));
     assert_eq!(rows, chip(0x230001));
 }
 

@@ -26,12 +26,3 @@ pub fn refuse_if(it_is_so: bool, number: Refusal) -> Result<(), Refusal> {
 pub fn answer(result: Result<Answer, Refusal>) -> Answer {
     result.unwrap_or_else(Answer::refused)
 }
-
-/// A write, a job or a rehearsal that is done.
-pub fn burnt(place: u32, pulses: u32) -> Answer {
-    Answer {
-        place,
-        pulses,
-        ..Answer::default()
-    }
-}
