@@ -1,11 +1,13 @@
 //! A second reading of document 01, and the means to compare it with the library.
 //!
+//! `call` has the list of the calls and `shape` the fields of what goes into them and comes back.
 //! The model goes in one line, from the row up: `row`, `code`, `locks`, `keys`, `permission`, `model`, `access`, `latches`,
-//! `jobs`, `calls`. Each uses only those before it, and what has no rule in it: `shape`, `fault` and `ladder`. The library is
-//! in `face`, behind the child process of `driver`.
+//! `jobs`, `calls`. Each uses only those before it, and what has no rule in it; `tests/line.rs` sees to it.
+//! The library is in `face`, behind the child process of `driver`.
 //! `plain` is for timings alone, and is not there when the comparison is built.
 //! Everything else draws calls, makes them on both sides and compares what comes back.
 
+pub mod call;
 pub mod part;
 pub mod shape;
 
@@ -35,7 +37,6 @@ pub mod face;
 
 pub mod arguments;
 pub mod bench;
-pub mod call;
 pub mod every;
 pub mod images;
 pub mod jobfiles;

@@ -24,13 +24,22 @@ fn key(random: &mut Random, image: &Image) -> Key {
     }
 }
 
-/// One page's locks and key settings.
+/// One page's locks and key settings. Every field is named, so that the compiler asks here for a new one.
 fn set_page(random: &mut Random, state: &mut State, page: usize) {
-    state.secure[page] = level(random);
-    state.nonsecure[page] = level(random);
-    state.writekey[page] = index(random);
-    state.readkey[page] = index(random);
-    state.nokey[page] = random.coin();
+    let State {
+        secure,
+        nonsecure,
+        writekey,
+        readkey,
+        nokey,
+        keys: _,
+        entered: _,
+    } = state;
+    secure[page] = level(random);
+    nonsecure[page] = level(random);
+    writekey[page] = index(random);
+    readkey[page] = index(random);
+    nokey[page] = random.coin();
 }
 
 /// A whole state made by hand, with few pages locked or many.
