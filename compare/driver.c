@@ -7,8 +7,8 @@
  *
  *     request     call, rows_len, count of entries, count of bytes, four arguments, the state (444 bytes), the entries (place,
  *                 value), then the bytes of a key or a job
- *     reply       count of entries, the answer (24 bytes), the state if the call gives one back, then the entries (place, value) that
- *                 the call changed
+ *     reply       count of entries, the answer (24 bytes), the state if the call gives one back, then the entries (place, value)
+ *                 that the call changed
  *
  * The whole image is looked at after each call, so a change to an entry that the call was not lent is told too. A request that is
  * none of these ends the program with one line and 1.

@@ -1,5 +1,5 @@
-//! The calls, in one list: each with its arguments, the rows that it is lent, what comes back, and the numbers that it can
-//! give. A new call is a new line of it: the compiler then asks for it wherever one call is told from another.
+//! The calls, in one list: each with its arguments, the rows that it is lent, what comes back, and the numbers that it
+//! can give. A new call is a new line of it: the compiler then asks for it wherever one call is told from another.
 
 use std::fmt;
 

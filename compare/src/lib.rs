@@ -1,8 +1,8 @@
 //! A second reading of document 01, and the means to compare it with the library.
 //!
 //! `call` has the list of the calls and `shape` the fields of what goes into them and comes back.
-//! The model goes in one line, from the row up: `row`, `code`, `locks`, `keys`, `permission`, `model`, `access`, `latches`,
-//! `jobs`, `calls`. Each uses only those before it, and what has no rule in it; `tests/line.rs` sees to it.
+//! The model goes in one line, from the row up: `row`, `code`, `locks`, `keys`, `permission`, `model`, `access`,
+//! `latches`, `jobs`, `calls`. Each uses only those before it, and what has no rule in it; `tests/line.rs` sees to it.
 //! The library is in `face`, behind the child process of `driver`.
 //! `plain` is for timings alone, and is not there when the comparison is built.
 //! Everything else draws calls, makes them on both sides and compares what comes back.

@@ -1,9 +1,9 @@
-//! The parts of a shape. A shape's fields are listed once, by `shape!`; what is blank, the bytes that go to the driver and
-//! come back, and the first field in which two differ, all follow from that list.
+//! The parts of a shape. A shape's fields are listed once, by `shape!`; what is blank, the bytes that go to the driver
+//! and come back, and the first field in which two differ, all follow from that list.
 
 use std::fmt::Debug;
 
-/// What can be a field of a shape, and a shape itself. The bytes are those of the struct in C: low byte first, without gaps.
+/// A field of a shape, or a shape itself. Its bytes are those that it has in C: low byte first, without gaps.
 pub trait Part: Copy + PartialEq + Debug {
     const BLANK: Self;
     /// How many bytes it has.

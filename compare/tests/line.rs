@@ -1,4 +1,4 @@
-//! The files that a rule stands in, and what they rest on, go in one line from the row up: none uses one that comes after it.
+//! The model's files, and what they rest on, go in one line from the row up: none uses one that comes after it.
 
 use std::fs;
 

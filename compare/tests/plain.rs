@@ -1,4 +1,4 @@
-//! The timed rules against the model, on the comparison's own mix of calls: a time means nothing if the answer is another.
+//! The timed rules against the model, on the comparison's own mix of calls: else a time would say nothing.
 
 use compare::bench::Bench;
 use compare::call::{Call, Chip};

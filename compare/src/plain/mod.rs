@@ -1,6 +1,6 @@
 //! For timings alone: the same rules written plainly in Rust, with references, for the library's times to be measured
-//! against. No part of the model or of the comparison uses them, and they are no third reading of document 01: that they
-//! answer as the model does is all that is asked of them, and `tests/plain.rs` sees to it.
+//! against. No part of the model or of the comparison uses them, and they are no third reading of document 01: all that
+//! is asked of them is that they answer as the model does, and `tests/plain.rs` sees to it.
 //!
 //! A state is lent, and changed in place. A refusal is the `Err` of a `Result`, so that each ladder is a row of tests.
 
