@@ -21,11 +21,17 @@ use row::answer::Answer;
 // More pulses than any job takes: 512 entries of 24 bits.
 const NO_LIMIT: u32 = 12288;
 
-// "2 of 3 entries stand, 8 pulses, limit 8"
-fn summary(answer: Answer, count: u32, words: Words, limit: u32) {
+// "2 of 3 entries stand"
+fn standing(answer: Answer, count: u32) {
     print::number(answer.place);
     print::number_after(b" of ", count);
-    print::text(b" entries stand, ");
+    print::text(b" entries stand");
+}
+
+// "2 of 3 entries stand, 8 pulses, limit 8"
+fn summary(answer: Answer, count: u32, words: Words, limit: u32) {
+    standing(answer, count);
+    print::text(b", ");
     print::counted(answer.pulses, b"pulse");
     limit_words(words, limit);
 }
@@ -39,10 +45,25 @@ fn limit_words(words: Words, limit: u32) {
     print::end();
 }
 
+// The first line decides what a person does next, so it says where the limit cut the job.
+fn headline(answer: Answer, count: u32) {
+    if answer.place == count {
+        refusals::number_and_words(0);
+        print::end();
+        return;
+    }
+    print::text(b"0: cut after ");
+    print::counted(answer.pulses, b"pulse");
+    print::text(b": ");
+    standing(answer, count);
+    print::end();
+}
+
 fn show(before: &[u32; 4096], after: &[u32; 4096], job: &[u8], answer: Answer) {
-    refusals::number_and_words(0);
-    print::text(b"\n\n");
-    if answer.pulses == 0 {
+    let count = count_of(job);
+    headline(answer, count);
+    print::end();
+    if count == 0 {
         print::line(b"no row changes");
     } else {
         print::line(b"row    old         new       pulses  kind  value");
