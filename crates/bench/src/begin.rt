@@ -1,7 +1,7 @@
 // What every command on an image begins with: the image, a reset, and the key where one is given.
 use crate::ended::Ended;
 use crate::files;
-use crate::refusals;
+use crate::reset_refusals;
 use crate::usage;
 use crate::words;
 use crate::words::Words;
@@ -31,7 +31,7 @@ fn after_reset(rows: &[u32]) -> Begun {
     let answer = outcome.answer;
     let number = answer.number;
     if number != 0 {
-        refusals::image(number, rows);
+        reset_refusals::lines(number, rows);
         return not_begun(Ended::Answered(number));
     }
     let state = outcome.state;

@@ -3,7 +3,7 @@ ghost use Prim.Native.Nat.{_≤_};
 use libc::STDOUT_FILENO;
 pub use screen::print::bits;
 pub use screen::print::blanks;
-use screen::print::hexadecimal;
+pub use screen::print::hexadecimal;
 pub use screen::print::left;
 pub use screen::print::number;
 pub use screen::print::right;

@@ -2,6 +2,7 @@
 use crate::begin::begin;
 use crate::changes;
 use crate::ended::Ended;
+use crate::entered_key;
 use crate::files;
 use crate::files::Length;
 use crate::job_refusals;
@@ -99,6 +100,7 @@ fn rehearsed(words: Words, before: &[u32; 4096], state: State, job: &[u8], limit
     let answer = burnt(&mut after, state, job, limit);
     if answer.number != 0 {
         job_refusals::lines(before, state, job, answer);
+        entered_key::line(words, state);
         return Ended::Answered(answer.number);
     }
     if !saved(words, &after) {
@@ -107,6 +109,7 @@ fn rehearsed(words: Words, before: &[u32; 4096], state: State, job: &[u8], limit
     show(before, &after, job, answer);
     summary(answer, count_of(job), words, limit);
     saved_line(words);
+    entered_key::line(words, state);
     Ended::Answered(0)
 }
 
