@@ -35,14 +35,12 @@ fn all_low_bytes_zero(rows: &[u32]) -> bool {
 pub fn lines(number: u32, rows: &[u32]) {
     let row = first_too_large(rows);
     print::number(number);
-    print::text(b": the reset of this image is refused: an entry is above 16,777,215");
+    print::text(b": the reset of this image is refused: an entry above 16,777,215");
     of_row(row);
     print::text(b"\n   it is ");
     print::hexadecimal(entry_of(rows, row), 8);
-    print::line(b", and a row has 24 bits: it could not be read, or the file is no image");
+    print::line(b": the row could not be read, or the file is no image");
     if all_low_bytes_zero(rows) {
-        print::line(
-            b"   every entry has a low byte of 0: the file may have its bytes in the other order",
-        );
+        print::line(b"   every entry has a low byte of 0, as in a dump of the other byte order");
     }
 }
