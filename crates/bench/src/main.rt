@@ -21,6 +21,7 @@ mod refused_row;
 mod rehearse;
 mod reset_refusals;
 mod saving;
+mod shown;
 mod usage;
 mod words;
 
@@ -39,7 +40,7 @@ fn command() -> Ended {
     if words::is(1, b"code") {
         return code::run();
     }
-    if words::is(1, b"help") || words::is(1, b"--help") {
+    if words::is(1, b"help") || words::is(1, b"--help") || words::is(1, b"-h") {
         return help::run();
     }
     usage::no_command()

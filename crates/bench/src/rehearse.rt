@@ -118,7 +118,7 @@ fn on_bytes(
     words: Words,
     rows: &[u32; 4096],
     state: State,
-    bytes: &[u8; 3079],
+    bytes: &[u8; 3080],
     length: usize,
     limit: u32,
 ) -> Ended {
@@ -137,7 +137,7 @@ fn on_files(words: Words, limit: u32) -> Ended {
         return ended;
     }
     let state = begun.state;
-    let mut job = [0u8; 3079];
+    let mut job = [0u8; 3080];
     match files::load_job(words.second, &mut job) {
         Length::Is(n) => on_bytes(words, &rows, state, &job, n, limit),
         Length::Not => Ended::File,

@@ -19,7 +19,7 @@ pub fn no_command() -> Ended {
         print::line(b"otp: no command; ./otp help shows them");
         return Ended::Usage;
     }
-    wrong(1, b"no such command")
+    wrong(1, b"no such command; ./otp help shows them")
 }
 
 // A word that is not what it must be.

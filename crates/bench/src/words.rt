@@ -1,7 +1,7 @@
 // The words that the command was given. Each is known by its place, and read again where it is needed.
 use crate::numbers;
 use crate::numbers::Number;
-use crate::print;
+use crate::shown;
 
 // The places of what was given, 0 for what was not. `first` to `third` are the words that follow no option.
 pub struct Words {
@@ -50,9 +50,13 @@ pub fn is(place: usize, name: &[u8]) -> bool {
 }
 
 pub fn print_word(place: usize) {
-    let mut word = io::buffer();
+    let mut word = [0u8; 4096];
     let n = os::arg(place, &mut word);
-    print::text(&word[..n]);
+    if os::errno() == libc::ENAMETOOLONG {
+        shown::beginning(&word);
+        return;
+    }
+    shown::whole(&word[..n]);
 }
 
 // The number that a word spells.
