@@ -36,7 +36,7 @@ fn burning(old: u32, new: u32, must: u32) {
         return;
     }
     if new == old {
-        print::text(b", not begun");
+        print::text(b", not reached");
         return;
     }
     print::number_after(b", cut off with ", pulses(new, must));
