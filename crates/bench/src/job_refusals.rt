@@ -1,10 +1,9 @@
 // Why a job is refused: the number and its words, the entry that it is about, and what stands against that entry.
 use crate::files::four_at;
+use crate::levels;
 use crate::print;
 use crate::refusals::number_and_words;
 use crate::refusals::of_row;
-use chip::permission::caller_level;
-use chip::permission::row_key_level;
 use chip::state::State;
 use job::entries::Entry;
 use job::entries::any_bad;
@@ -77,16 +76,6 @@ fn malformed(job: &[u8]) {
     }
 }
 
-// The levels that a write of the row goes by.
-fn levels(state: State, row: u32) {
-    print::number_after(
-        b"   its page has Secure level ",
-        caller_level(state, 0, row),
-    );
-    print::number_after(b" and key level ", row_key_level(state, row));
-    print::line(b", and a write needs both at 0");
-}
-
 // The bits that the row holds already, and the two rows that would hold the value.
 fn clash(old: u32, value: u16) {
     print::bits_after(b"   it holds ", old);
@@ -99,7 +88,7 @@ fn clash(old: u32, value: u16) {
 fn against(rows: &[u32], state: State, number: u32, entry: Entry) {
     let row = entry.row;
     if number == 7 {
-        levels(state, row);
+        levels::line(state, 0, row, b", and a write needs both at 0");
     }
     if number == 9 {
         clash(entry_of(rows, row), (entry.value % 65536) as u16);

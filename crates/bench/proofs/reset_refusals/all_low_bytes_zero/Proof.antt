@@ -1,8 +1,8 @@
--- `bench::refusals::first_too_large` is safe and ends: each turn looks at one row. Assumes nothing.
+-- `bench::reset_refusals::all_low_bytes_zero` is safe and ends: each turn looks at one row. Assumes nothing.
 use Prim.Native.Nat.{_-_}
 use borrow.Author.Needs.{needs}
-use Rattle.bench.proofs.refusals.first_too_large.Statement.{statement}
-use Rattle.bench.proofs.refusals.first_too_large.Tie as tie
+use Rattle.bench.proofs.reset_refusals.all_low_bytes_zero.Statement.{statement}
+use Rattle.bench.proofs.reset_refusals.all_low_bytes_zero.Tie as tie
 
 abbrev Inv-loop : tie.InvT-loop
 Inv-loop rows row₀ row = Unit
@@ -31,8 +31,8 @@ loop-again c = search needs
 returns-2 : tie.Need-returns-2 Inv-loop μ-loop
 returns-2 c = search needs
 
-pub first-too-large-spec : {M : Type 1} → statement M
-first-too-large-spec =
+pub all-low-bytes-zero-spec : {M : Type 1} → statement M
+all-low-bytes-zero-spec =
     tie.close
     (tie.spec
     Inv-loop

@@ -1,9 +1,9 @@
--- `numbers::same::same_rows` is safe and ends: each turn counts `i` up to the length. Assumes nothing.
+-- `screen::same::same_rows` is safe and ends: each turn counts `i` up to the length. Assumes nothing.
 use Prim.Native.Nat.{_-_}
 use lib.ListN.{length}
 use borrow.Author.Needs.{needs}
-use Rattle.numbers.proofs.same.same_rows.Statement.{statement}
-use Rattle.numbers.proofs.same.same_rows.Tie as tie
+use Rattle.screen.proofs.same.same_rows.Statement.{statement}
+use Rattle.screen.proofs.same.same_rows.Tie as tie
 
 abbrev Inv-loop : tie.InvT-loop
 Inv-loop a b i₀ i = Unit
