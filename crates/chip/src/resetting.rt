@@ -21,7 +21,7 @@ use row::answer::done;
 use row::reading::read_row;
 
 // Whether no entry is above 16,777,215.
-fn all_in_range(rows: &[u32]) -> bool
+pub fn all_in_range(rows: &[u32]) -> bool
     ensures { λ r. ⌜ r ≡ spec.allInRange (now (rows .entry)) ⌝ }
 {
     let mut i = 0;
