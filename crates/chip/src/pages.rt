@@ -8,23 +8,31 @@ pub struct Page {
 }
 
 impl Page {
+    // Pages of a chip.
     pub const COUNT: usize = 64;
 
+    // The last page.
     pub const LAST: u32 = 63;
 
+    // Rows of a page.
     pub const ROWS: u32 = 64;
 
+    // Rows of a chip.
     pub const CHIP_ROWS: usize = 4096;
 
+    // The last row of a chip.
     pub const LAST_ROW: u32 = 4095;
 
     // From here up no job writes: the keys, their valid flags and the lock words.
     pub const FIRST_KEPT_ROW: u32 = 0xf40;
 
+    // The first row of key 1. Each key has eight.
     pub const FIRST_KEY_ROW: u32 = 0xf48;
 
+    // Past the rows of key 6. The valid flag of key k is k rows on.
     pub const PAST_KEY_ROWS: u32 = 0xf78;
 
+    // The low lock row of page 0.
     pub const FIRST_LOCK_ROW: u32 = 0xf80;
 
     // The first row of the page.

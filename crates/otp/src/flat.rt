@@ -33,7 +33,7 @@ pub struct FlatOutcome {
 }
 
 // 0 for clean, 1 for repaired.
-pub fn condition_of(condition: Condition) -> u32
+fn condition_of(condition: Condition) -> u32
     ensures { λ r. ⌜ r ≡ spec.conditionOf condition ⌝ }
 {
     match condition {
@@ -43,7 +43,7 @@ pub fn condition_of(condition: Condition) -> u32
 }
 
 // The repaired bit, 0 where clean.
-pub fn bit_of(condition: Condition) -> u32
+fn bit_of(condition: Condition) -> u32
     ensures { λ r. ⌜ r ≡ spec.bitOf condition ⌝ }
 {
     match condition {

@@ -78,7 +78,7 @@ const PLACES: [u32; 64] = [
 ];
 
 // The row with its polarity taken off.
-pub fn upright(row: u32) -> u32
+fn upright(row: u32) -> u32
     ensures { λ r. ⌜ r ≡ spec.upright row ⌝ }
 {
     if (row >> 22) % 4 == 3 {
@@ -88,7 +88,7 @@ pub fn upright(row: u32) -> u32
 }
 
 // What bits 21:0 hold: the value whose code differs from them in at most one place.
-pub fn decoded(bits: u32) -> Answer
+fn decoded(bits: u32) -> Answer
     ensures { λ r. ⌜ r ≡ spec.decoded (bits % 2 ^ 22) ⌝ }
 {
     let own = bits % 4194304;

@@ -13,7 +13,7 @@ pub struct Written {
 }
 
 // Whether every bit already set is in the row.
-pub fn fits(old: u32, row: u32) -> bool
+fn fits(old: u32, row: u32) -> bool
     ensures { λ r. ⌜ r ≡ spec.fits old row ⌝ }
 {
     old & row == old
