@@ -5,7 +5,7 @@ use mathlib.Core.Bool.{Bool, true, false, not, _&&_, _||_}
 use mathlib.Core.List.{List}
 use Prim.Native.Nat.{ℕ, _+_, _≤_, _<_}
 use native.Mathlib.Omega.{arith}
-use borrow.Author.Tests.{ltb-false, eqb-true, not-false}
+use borrow.Author.Tests.{le-ltb, ltb-false, eqb-true, not-false}
 use lib.Dec.{eqb, ltb}
 use lib.ListN.{length}
 use Rattle.row.specs.Rungs.{firstOf}
@@ -39,6 +39,20 @@ module _ (rows : List ℕ) where
       let long : length rows ≡ 4096 = whole (one .0) in
       let low : row ≤ 4095 = ltb-false 4095 row (two .0) in
       (omega arith, four .0, ltb-false 16777215 (rowAt rows row) (three .0), five .0, six .0, not-false may (seven .0))
+
+  -- the row that such a call has used can be used again with ECC, over a slice of the same length that holds a row there
+  pub call-again : (state : State) (caller row : ℕ) (valueTooLarge may again : Bool) (left : List ℕ)
+      → firstOf (callRungs rows state caller row true valueTooLarge may) ≡ 0 → length left ≡ length rows → rowAt left row ≤ 16777215
+      → again ≡ true → firstOf (callRungs left state caller row true false again) ≡ 0
+  unfolding callRungs rowRungs
+  call-again state caller row valueTooLarge may again left e same small ok =
+      let one = passed (notWhole rows) 0 _ e in
+      let caller-four = passed (ltb 1 caller) 3 _ (one .1) in
+      let four = passed valueTooLarge 3 _ (caller-four .1) in
+      let two = passed (ltb 4095 row) 1 _ (four .1) in
+      let five = passed (isLockRow row) 4 _ (two .1) in
+      let six = passed (hidden state row) 5 _ (five .1) in
+      rw (same, one .0, caller-four .0, two .0, five .0, six .0, ok, le-ltb 16777215 (rowAt left row) small)
 
   pub vote-passed : (state : State) (caller row count : ℕ) → readVoteNumber rows state caller row count ≡ 0
       → (row + count ≤ length rows) × ((eqb count 3 || eqb count 8) ≡ true)

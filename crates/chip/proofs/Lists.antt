@@ -1,14 +1,16 @@
 -- Lists by their places: what an array that is filled place by place holds, what stands at a place, and when two lists are the same.
 -- Assumes nothing.
 use mathlib.Core.Path.{_≡_, refl, sym, ap, _∙_}
-use mathlib.Core.Bool.{true, false}
+use mathlib.Core.Bool.{Bool, true, false}
 use mathlib.Core.List.{List, [], _∷_, _++_}
 use Prim.Native.Nat.{ℕ, zero, suc, _+_, _<_}
 use native.Mathlib.Nat.{le-of-suc-le-suc, not-suc-le-zero, le-of-eq}
 use native.Mathlib.Numerals.{add-one}
-use borrow.Author.Tests.{eq-eqb, ne-eqb}
-use lib.ListN.{length, getD, take, drop, set, length-append, length-set}
-use lib.Seq.{take-suc-set, take-all, drop-cons, drop-length}
+use native.Mathlib.Omega.{arith}
+use borrow.Author.Tests.{eq-eqb, ne-eqb, eqb-true, eqb-false}
+use lib.Dec.{eqb}
+use lib.ListN.{List·getD-append, length, getD, take, drop, set, length-append, length-set}
+use lib.Seq.{getD-append-seam, take-suc-set, take-all, drop-cons, drop-length}
 use Rattle.chip.specs.Lists.{listed, same}
 
 -- what stands at a place of a list is the same whatever stands past it
@@ -31,6 +33,21 @@ module _ {ℓ} {A : Type ℓ} (rule : ℕ → A) where
   -- all places are filled
   pub listed-all : (n : ℕ) (l : List A) → length l ≡ n → take n l ≡ listed n rule → l ≡ listed n rule
   listed-all n l h e = sym (take-all n l (le-of-eq h)) ∙ e
+
+  -- what stands at a place that is filled
+  pub listed-at : (n k : ℕ) (d : A) → k < n → getD (listed n rule) k d ≡ rule k
+  unfolding listed
+  listed-at zero k d h = absurd (not-suc-le-zero h)
+  listed-at (suc n) k d h = go (eqb k n) refl (listed-at n k d)
+    where
+      go : (t : Bool) → eqb k n ≡ t → (k < n → getD (listed n rule) k d ≡ rule k) → getD (listed n rule ++ (rule n ∷ [])) k d ≡ rule k
+      go true same below =
+          let last : k ≡ length (listed n rule) = eqb-true k n same ∙ sym (length-listed n) in
+          ap (λ (at : ℕ). getD (listed n rule ++ (rule n ∷ [])) at d) last ∙ getD-append-seam (listed n rule) (rule n) [] d
+          ∙ ap rule (sym (eqb-true k n same))
+      go false other below =
+          let before : k < n = omega (arith, eqb-false k n other) in
+          List·getD-append (listed n rule) (rule n ∷ []) d k (rw (length-listed n) before) ∙ below before
 
 -- an array whose places below some are filled by a rule
 abbrev pub Filled {ℓ} : {A : Type ℓ} → ℕ → (ℕ → A) → ℕ → List A → Type ℓ

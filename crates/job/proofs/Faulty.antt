@@ -1,7 +1,7 @@
 -- Faults: a fault goes before the next, and each fault has its number.
 -- Assumes nothing.
 use mathlib.Core.Path.{_≡_, refl, ap, _∙_}
-use mathlib.Core.Bool.{Bool, true, false, not}
+use mathlib.Core.Bool.{Bool, true, false, not, _&&_}
 use mathlib.Core.List.{List, _∷_}
 use Prim.Native.Nat.{ℕ, _+_, _-_, _≤_, _<_}
 use native.Mathlib.Omega.{arith}
@@ -155,3 +155,15 @@ head-count job e =
 pub order-sound : (job : List ℕ) → faultOf job ≡ Sound → orderFaults 0 0 (entriesOf job) ≡ Sound
 unfolding faultOf
 order-sound job e = both-sound (formFaults 0 (entriesOf job)) _ (both-sound (headFault job) _ e .1) .1
+
+-- and its entries are well formed
+pub forms-sound : (job : List ℕ) → faultOf job ≡ Sound → formFaults 0 (entriesOf job) ≡ Sound
+unfolding faultOf
+forms-sound job e = both-sound (formFaults 0 (entriesOf job)) _ (both-sound (headFault job) _ e .1) .0
+
+-- a well formed ECC entry has 16 bits
+pub form-kept : (i : ℕ) (e : Entry) → formFault i e ≡ Sound → e .kind ≡ 0 → e .value ≤ 65535
+form-kept i e sound coded =
+    let kind = head-passed (ltb 1 (e .kind)) (Kind i) _ (never-zero 9) sound in
+    let value = head-passed (eqb (e .kind) 0 && ltb 65535 (e .value)) (Value i) _ (never-zero 9) (kind .1) .0 in
+    ltb-false 65535 (e .value) (rw (eq-eqb (e .kind) 0 coded) at value)

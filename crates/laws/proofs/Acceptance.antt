@@ -13,6 +13,7 @@ use Rattle.chip.specs.Permission.{mayWrite}
 use Rattle.chip.specs.Resetting.{allInRange}
 use Rattle.chip.specs.declared.state.State.{State}
 use Rattle.access.specs.Burning.{burnt}
+use Rattle.access.proofs.Passing.{whole}
 use Rattle.job.specs.Burning.{Progress, allWritten, allPulses}
 use Rattle.job.specs.Entries.{countOf, entryAt, entriesFrom, entriesOf}
 use Rattle.job.specs.Faults.{faultNumber, orderFault, orderFaults, faultOf}
@@ -60,7 +61,7 @@ module _ (rows : List ℕ) (state : State) where
 -- ---- what is carried out
 
 module _ (verdict : Verdict) (rows : List ℕ) (state : State) (done : Progress) where
-  carried-number : carriedOut verdict rows state done .outcome .answer .number ≡ 0 → verdict .number ≡ 0
+  pub carried-number : carriedOut verdict rows state done .outcome .answer .number ≡ 0 → verdict .number ≡ 0
   carried-number answered = go (eqb (verdict .number) 0) refl
     where
       go : (t : Bool) → eqb (verdict .number) 0 ≡ t → verdict .number ≡ 0
@@ -73,7 +74,7 @@ module _ (verdict : Verdict) (rows : List ℕ) (state : State) (done : Progress)
   carried none = rw (eq-eqb (verdict .number) 0 none)
 
 module _ (rows : List ℕ) (state : State) (job : List ℕ) where
-  ran-number : runJob rows state job .outcome .answer .number ≡ 0 → verdictOf rows state job .number ≡ 0
+  pub ran-number : runJob rows state job .outcome .answer .number ≡ 0 → verdictOf rows state job .number ≡ 0
   unfolding runJob
   ran-number = carried-number (verdictOf rows state job) rows state _
 
@@ -96,15 +97,22 @@ unfolding verdictOf
 accepted-verdict {rows} {state} a =
     rw (eq-eqb (length rows) 4096 (a .whole), a .sound) (admitted-judged rows state 0 (a .admitted))
 
+-- what an accepted job has passed, on any state
+pub accepted-by : (rows : List ℕ) (state : State) (job : List ℕ) → Bytes job → verdictOf rows state job .number ≡ 0
+    → (length rows ≡ 4096) × (faultOf job ≡ Sound) × Admitted rows state 0 (entriesOf job)
+accepted-by rows state job bytes done =
+    let parts = accepted rows state job done in
+    (whole rows (parts .0), parts .1, judged-admitted rows state job bytes _ 0 0 0 (order-sound job (parts .1)) (parts .2))
+
 pub accepted-on : (rows : List ℕ) (before : State) (key : Keyed) (job : List ℕ) → Bytes job → acceptedOn rows before key job
     → Accepted rows (ready rows before key) job
 accepted-on rows before key job bytes accept =
     let state : State = ready rows before key in
     let slice = reset-passed rows (accept .0) in
-    let parts = accepted rows state job (ran-number rows state job (accept .1)) in
+    let parts = accepted-by rows state job bytes (ran-number rows state job (accept .1)) in
     record {
       whole = slice .0;
       small = slice .1;
       sound = parts .1;
-      admitted = judged-admitted rows state job bytes _ 0 0 0 (order-sound job (parts .1)) (parts .2);
+      admitted = parts .2;
     }

@@ -17,7 +17,7 @@ use Rattle.laws.proofs.Writes.{shared, inItself, inThrough, pulsesAdd, 
 
 -- ---- an order
 
-in-both : (a b : ℕ) → In a b → In b a → a ≡ b
+pub in-both : (a b : ℕ) → In a b → In b a → a ≡ b
 in-both a b ab ba = sym (shared a b ab) ∙ and-comm a b ∙ shared b a ba
 
 pub in-le : (a b : ℕ) → In a b → a ≤ b

@@ -7,26 +7,30 @@ use Prim.Native.Nat.{ℕ, _^_, _≤_, _<_}
 use native.Mathlib.Omega.{arith}
 use borrow.Author.Tests.{eqb-true, eqb-false, eq-eqb, ltb-false}
 use lib.Dec.{eqb, ltb, lit≤}
-use lib.ListN.{length, set}
+use lib.ListN.{length, set, length-set}
 use lib.Seq.{getD-set-same}
 use Rattle.row.specs.Choice.{if_then_else_}
+use Rattle.row.specs.Reading.{undecodable}
 use Rattle.row.specs.Rungs.{Rung, _when_, firstOf, orElse}
 use Rattle.row.specs.Writing.{eccWritten, rawWritten, neitherFits}
+use Rattle.row.specs.declared.answer.Answer.{Answer}
 use Rattle.row.specs.declared.writing.Written.{Written}
 use Rattle.chip.specs.Keys.{hidden}
 use Rattle.chip.specs.Slices.{rowAt, notWhole, tooLarge}
 use Rattle.chip.specs.Pages.{isLockRow}
-use Rattle.chip.specs.Permission.{mayWrite}
+use Rattle.chip.specs.Permission.{mayRead, mayWrite}
 use Rattle.chip.specs.declared.state.State.{State}
 use Rattle.access.specs.Burning.{Left, oneRow}
-use Rattle.access.specs.Judging.{ecc, rowRungs, callRungs}
-use Rattle.access.specs.Reads.{readEcc}
+use Rattle.access.specs.Judging.{ecc, noValue, rowRungs, callRungs}
+use Rattle.access.specs.Reads.{readEccNumber, readEcc}
 use Rattle.access.specs.Writes.{writeRawNumber, writeEccNumber, writeRaw, writeEcc}
-use Rattle.access.proofs.Passing.{call-passed}
-use Rattle.laws.specs.Promises.{WriteReadsBack, RawAdds, eccAllowed, NineOfCall, OneBitNeverNine}
+use Rattle.access.proofs.Passing.{call-passed, call-again}
+use Rattle.laws.specs.Promises.{WriteReadsBack, RawAdds, WriterReadsBack, eccAllowed, NineOfCall, OneBitNeverNine}
 use Rattle.laws.specs.Reads.{Value}
 use Rattle.row.proofs.Ladders.{refusing, then-rungs, nine}
 use Rattle.row.proofs.Choices.{both-ways, own-number}
+use Rattle.laws.proofs.Entries.{ecc-small}
+use Rattle.laws.proofs.Permits.{mayWriteMayRead}
 use Rattle.laws.proofs.Writes.{readsBack, nineExactly, oneBitFits}
 
 abbrev numberOf : Left → ℕ
@@ -42,7 +46,7 @@ second-step first second number other = go (eqb first 0) refl
     go false e same = absurd (eqb-false first 0 e (other same))
 
 -- a write that is done leaves its row burnt
-left-rows : (rows : List ℕ) (state : State) (row number : ℕ) (written : Written) → numberOf (oneRow number rows state row written) ≡ 0
+pub left-rows : (rows : List ℕ) (state : State) (row number : ℕ) (written : Written) → numberOf (oneRow number rows state row written) ≡ 0
     → (number ≡ 0) × (oneRow number rows state row written .rows ≡ set rows row (written .row))
 left-rows rows state row number written e =
     let none : number ≡ 0 = sym (own-number numberOf number _ _ refl refl) ∙ e in
@@ -76,6 +80,10 @@ module _ (rows : List ℕ) (state : State) (caller row value : ℕ) where
   unfolding callRungs rowRungs refusing
   two-steps =
       then-rungs rungs (9 when neitherFits (rowAt rows row) value ∷ []) tt ∙ ap (orElse first) (sym (nine (rowAt rows row) value))
+
+  -- a done one used its row
+  pub allowed-by : writeEccNumber rows state caller row value ≡ 0 → row < length rows
+  allowed-by e = allowed (second-step first (written .number) 0 (λ z. z) (sym two-steps ∙ e) .0) .0
 
   ecc-number : numberOf (writeEcc rows state caller row value) ≡ orElse first (written .number)
   unfolding writeEcc
@@ -124,3 +132,31 @@ writeReadsBack rows state writer reader row value done readable =
     let used = allowed rows state writer row value (by-row .0) in
     rw (eq-eqb _ 0 readable, left .1, getD-set-same rows row (eccWritten old value .row) 0 (used .0))
     (readsBack old value (used .1) (by-row .1))
+
+-- a write leaves the state that came in
+state-kept : (rows : List ℕ) (state : State) (caller row value : ℕ) → writeEcc rows state caller row value .outcome .state ≡ state
+unfolding writeEcc
+state-kept rows state caller row value =
+    both-ways (λ (left : Left). left .outcome .state ≡ state) (eqb (writeEccNumber rows state caller row value) 0) _ _ refl refl
+
+pub writerReadsBack : WriterReadsBack
+unfolding writeEcc callRungs rowRungs refusing
+writerReadsBack rows state writer row value done =
+    let old : ℕ = rowAt rows row in
+    let new : ℕ = eccWritten old value .row in
+    let left = left-rows rows state row (writeEccNumber rows state writer row value) (eccWritten old value) done in
+    let by-row = second-step (eccAllowed rows state writer row value) (eccWritten old value .number) 0 (λ e. e) (sym (two-steps rows state writer row value) ∙ left .0) in
+    let used = allowed rows state writer row value (by-row .0) in
+    let may = call-passed rows state writer row ecc (ltb 65535 value) (mayWrite state writer row) (by-row .0) .5 in
+    let there : rowAt (set rows row new) row ≡ new = getD-set-same rows row new 0 (used .0) in
+    let small : new < 2 ^ 24 = ecc-small old value (used .1) (used .2) in
+    let reads = readsBack old value (used .1) (by-row .1) in
+    let low : rowAt (set rows row new) row ≤ 16777215 = rw there (omega arith) in
+    let first : firstOf (callRungs (set rows row new) state writer row ecc noValue (mayRead state writer row)) ≡ 0 =
+    call-again rows state writer row (ltb 65535 value) (mayWrite state writer row) (mayRead state writer row) (set rows row new) (by-row .0) (length-set rows row new) low (mayWriteMayRead state writer row may) in
+    let number : readEccNumber (set rows row new) state writer row ≡ 0 =
+    then-rungs (callRungs (set rows row new) state writer row ecc noValue (mayRead state writer row)) (8 when undecodable (rowAt (set rows row new) row) ∷ []) tt
+    ∙ ap (λ (n : ℕ). orElse n (firstOf (8 when undecodable (rowAt (set rows row new) row) ∷ []))) first
+    ∙ rw (there, ap (λ (a : Answer). a .number) reads) in
+    rw (state-kept rows state writer row value)
+    (writeReadsBack rows state writer writer row value done (rw (left .1) number))

@@ -14,7 +14,7 @@ use Rattle.job.specs.Verdicts.{verdictOf}
 use Rattle.job.specs.declared.entries.Entry.{Entry}
 use Rattle.job.specs.declared.verdicts.Verdict.{Verdict}
 use Rattle.laws.specs.Votes.{EachIn}
-use Rattle.laws.specs.Cuts.{ready, CutOf, newlySet, Cuts, CutPower, PulsesAreNewBits}
+use Rattle.laws.specs.Cuts.{ready, CutOf, newlySet, Cuts, CutPower}
 use Rattle.laws.proofs.Between.{each-self, each-through, each-length, each-set, each-over, each-held, new-through, new-none}
 use Rattle.laws.proofs.Rewriting.{Admitted, with-keeps, all-keep, outside, all-pulses, again}
 use Rattle.laws.proofs.Agreement.{AgreeToWrite, same-verdict}
@@ -68,9 +68,6 @@ pulses-new : {rows : List ℕ} {state : State} {job : List ℕ} → Accepted row
 pulses-new {rows} {state} {job} a =
     ap (λ (l : Left). l .outcome .answer .pulses) (ran rows state job (accepted-verdict a))
     ∙ all-pulses (entriesOf job) (a .whole) (a .admitted)
-
-pub pulsesAreNewBits : PulsesAreNewBits
-pulsesAreNewBits rows before key job bytes accept = pulses-new (accepted-on rows before key job bytes accept)
 
 pub cutPower : CutPower
 cutPower rows left before later key job spent bytes accept cuts =

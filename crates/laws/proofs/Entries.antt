@@ -24,7 +24,7 @@ use Rattle.laws.proofs.Writes.{in-shared, Ecc, written, keepsBits, same
 
 -- ---- an ECC write
 
-ecc-pulses : (old value : ℕ) → eccWritten old value .pulses ≡ pulses old (eccWritten old value .row)
+pub ecc-pulses : (old value : ℕ) → eccWritten old value .pulses ≡ pulses old (eccWritten old value .row)
 ecc-pulses old value = go (written old value)
   where
     go : {w : Written} → Ecc old value w → w .pulses ≡ pulses old (w .row)
@@ -32,7 +32,7 @@ ecc-pulses old value = go (written old value)
     go (Ecc.as-inverted ¬p i) = refl
     go (Ecc.as-it-was ¬p ¬i) = sym (standsAlready old)
 
-ecc-small : (old value : ℕ) → Value value → old < 2 ^ 24 → eccWritten old value .row < 2 ^ 24
+pub ecc-small : (old value : ℕ) → Value value → old < 2 ^ 24 → eccWritten old value .row < 2 ^ 24
 ecc-small old value h small = go (written old value)
   where
     low : code value < 2 ^ 24

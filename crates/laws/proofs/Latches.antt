@@ -59,7 +59,7 @@ reset-done rows long small = rw (eq-eqb (length rows) 4096 long, small)
 
 -- ---- the state of a chip just reset
 
-reset-state : (rows : List ℕ) (before : State) → resetNumber rows ≡ 0 → reset rows before .state ≡ latched rows
+pub reset-state : (rows : List ℕ) (before : State) → resetNumber rows ≡ 0 → reset rows before .state ≡ latched rows
 unfolding reset
 reset-state rows before e = rw e
 

@@ -4,12 +4,14 @@ pub mod Reading
 pub mod Writes
 pub mod Votes
 pub mod Numbers
+pub mod Permits
 pub mod Refusals
 pub mod Burning
 pub mod Locking
 pub mod CallWrites
 pub mod Between
 pub mod Entries
+pub mod Rising
 pub mod Rewriting
 pub mod Latches
 pub mod Ranges
@@ -17,3 +19,6 @@ pub mod Acceptance
 pub mod Agreement
 pub mod CutPower
 pub mod RehearsalCut
+pub mod Pulses
+pub mod Places
+pub mod Turns

@@ -79,4 +79,4 @@ refusalKeeps chip call = go (each-call (chip .rows) (chip .state) call)
     go (refusal value condition pulses same) some = (value, condition, pulses, same)
 
 pub noRoom : NoRoom
-noRoom chip call a b first second = first ∙ sym second
+noRoom Arguments Outcome definition arguments a b first second = first ∙ sym second

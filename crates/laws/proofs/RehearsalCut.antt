@@ -29,7 +29,8 @@ use Rattle.laws.specs.Cuts.{ready, CutOf, newlySet, RehearsalCuts}
 use Rattle.laws.proofs.Writes.{shared, in-shared, all-set}
 use Rattle.laws.proofs.Between.{new-through, new-none, new-set}
 use Rattle.laws.proofs.Entries.{entry-keeps, entry-pulses, burnt-over}
-use Rattle.laws.proofs.Rewriting.{Admitted, admitted-next, with-keeps}
+use Rattle.laws.proofs.Rewriting.{admitted-rising, with-keeps}
+use Rattle.laws.proofs.Rising.{Rising}
 use Rattle.laws.proofs.Acceptance.{carried, accepted-verdict, accepted-on}
 use Rattle.laws.proofs.CutPower.{cut-between}
 
@@ -43,7 +44,7 @@ module _ (n old row : ℕ) (enough : n ≤ pulses old row) where
       let taken = lowest-masked 24 n (bitAnd row (flipped old)) enough in
       (taken .0, ap (bitOr old) (taken .1), taken .2)
 
-  burnt-under : In old row → In (burntUpward n old row) row
+  pub burnt-under : In old row → In (burntUpward n old row) row
   burnt-under over =
       let burnt = some-burnt in
       rw (burnt .1, and-assoc row (flipped old) (burnt .0))
@@ -55,7 +56,7 @@ module _ (n old row : ℕ) (enough : n ≤ pulses old row) where
           (λ a b c. bitAnd (bitOr (bitAnd a b) (bitAnd b c)) b) (λ a b c. bitOr (bitAnd a b) (bitAnd b c))
           (λ k a b c. simp (bit-and, bit-or)) (λ k a b c. simp (bit-and, bit-or))
 
-  burnt-pulses : pulses old (burntUpward n old row) ≡ n
+  pub burnt-pulses : pulses old (burntUpward n old row) ≡ n
   unfolding pulses setBits
   burnt-pulses =
       let burnt = some-burnt in
@@ -68,17 +69,17 @@ module _ (n old row : ℕ) (enough : n ≤ pulses old row) where
 
 -- ---- entries burnt in order until the limit
 
-abbrev IsCut : List ℕ → List Entry → Progress → Type 0
+abbrev pub IsCut : List ℕ → List Entry → Progress → Type 0
 IsCut rows es done = CutOf rows es (done .rows) × (done .pulses ≡ newlySet rows (done .rows))
 
-rehearsed-cut : {rows : List ℕ} {state : State} {least : ℕ} (limit : ℕ) (es : List Entry) → length rows ≡ 4096 → Admitted rows state least es
+pub rehearsed-cut : {rows : List ℕ} {least : ℕ} (limit : ℕ) (es : List Entry) → length rows ≡ 4096 → Rising least es
     → IsCut rows es (rehearsed rows limit es)
 unfolding rehearsed
-rehearsed-cut {rows} limit [] whole Admitted.none = (CutOf.atEnd, sym (new-none rows))
-rehearsed-cut {rows} limit (e ∷ others) whole (Admitted.more low high small done rest) =
+rehearsed-cut {rows} limit [] whole Rising.none = (CutOf.atEnd, sym (new-none rows))
+rehearsed-cut {rows} limit (e ∷ others) whole (Rising.more low high rest) =
     go (leb (writtenOver rows e .pulses) limit) refl
     (rehearsed-cut (limit - writtenOver rows e .pulses) others
-    (length-set rows (e .row) (writtenOver rows e .row) ∙ whole) (admitted-next (e .row) (writtenOver rows e .row) rest))
+    (length-set rows (e .row) (writtenOver rows e .row) ∙ whole) rest)
   where
     old : ℕ
     old = rowAt rows (e .row)
@@ -113,4 +114,4 @@ rehearsalCuts rows before key job limit bytes accept =
     let state : State = ready rows before key in
     let a = accepted-on rows before key job bytes accept in
     rw (carried (verdictOf rows state job) rows state (rehearsed rows limit (entriesOf job)) (accepted-verdict a))
-    (rehearsed-cut limit (entriesOf job) (a .whole) (a .admitted))
+    (rehearsed-cut limit (entriesOf job) (a .whole) (admitted-rising (a .admitted)))

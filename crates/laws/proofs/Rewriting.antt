@@ -21,6 +21,7 @@ use Rattle.laws.specs.Votes.{EachIn}
 use Rattle.laws.specs.Cuts.{newlySet}
 use Rattle.laws.proofs.Writes.{inItself}
 use Rattle.laws.proofs.Between.{in-le, each-self, each-through, each-both, each-at, each-set, each-over, each-under, new-through, new-none, new-set}
+use Rattle.laws.proofs.Rising.{Rising}
 use Rattle.laws.proofs.Entries.{entry-keeps, entry-pulses, entry-small, entry-again}
 
 -- ---- entries that are accepted over a slice
@@ -73,6 +74,11 @@ pub all-keep : (es : List Entry) (rows : List ℕ) → EachIn rows (allWritten r
 unfolding allWritten
 all-keep [] rows = each-self rows
 all-keep (e ∷ others) rows = each-through (with-keeps rows e) (all-keep others (withEntry rows e))
+
+-- in their order
+pub admitted-rising : {rows : List ℕ} {state : State} {least : ℕ} {es : List Entry} → Admitted rows state least es → Rising least es
+admitted-rising Admitted.none = Rising.none
+admitted-rising (Admitted.more low high small done rest) = Rising.more low high (admitted-rising rest)
 
 -- no row below the least, and none from 0xf40 up, is burnt
 pub outside : {rows : List ℕ} {state : State} {least : ℕ} (es : List Entry) (k : ℕ) → Admitted rows state least es

@@ -72,9 +72,3 @@ RehearsalCuts =
     → CutOf rows (entriesOf job) (rehearse rows (ready rows before key) job limit .rows)
     × (rehearse rows (ready rows before key) job limit .outcome .answer .pulses
     ≡ newlySet rows (rehearse rows (ready rows before key) job limit .rows))
-
--- the pulses of an uncut run are the bits newly set
-abbrev pub PulsesAreNewBits : Type 0
-PulsesAreNewBits =
-    (rows : List ℕ) (before : State) (key : Keyed) (job : List ℕ) → Bytes job → acceptedOn rows before key job
-    → runJob rows (ready rows before key) job .outcome .answer .pulses ≡ newlySet rows (allWritten rows (entriesOf job))

@@ -6,3 +6,4 @@ pub mod Calls
 pub mod Numbers
 pub mod Promises
 pub mod Cuts
+pub mod Jobs

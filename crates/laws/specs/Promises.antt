@@ -1,5 +1,6 @@
 -- Demands 1 and 2 of every call (document 01, "The numbers we answer with").
-use Prim.Native.Nat.{ℕ, _≤_}
+use Prim.Native.Nat.{ℕ, _≤_, _<_, max}
+use mathlib.Core.Bool.{true}
 use mathlib.Core.List.{List, [], _∷_}
 use mathlib.Core.Logic.{_↔_}
 use mathlib.Core.Path.{_≡_}
@@ -10,15 +11,18 @@ use Rattle.row.specs.Answers.{found}
 use Rattle.row.specs.Code.{setBits, plain, inverted}
 use Rattle.row.specs.Rungs.{firstOf}
 use Rattle.row.specs.declared.answer.Condition.the-variants.{Clean}
-use Rattle.chip.specs.Calls.{shownLevel}
-use Rattle.chip.specs.Permission.{mayWrite}
+use Rattle.chip.specs.Calls.{shownLevel, advance}
+use Rattle.chip.specs.Locks.{levelOf, secureField, nonsecureField}
+use Rattle.chip.specs.Pages.{highLockRow}
+use Rattle.chip.specs.Permission.{mayRead, mayWrite}
 use Rattle.chip.specs.Resetting.{resetNumber, reset}
 use Rattle.chip.specs.Slices.{rowAt}
 use Rattle.chip.specs.declared.state.State.{State}
 use Rattle.access.specs.Reads.{readEccNumber, readEcc}
 use Rattle.access.specs.Judging.{ecc, callRungs}
 use Rattle.access.specs.Writes.{writeRaw, writeEcc}
-use Rattle.laws.specs.Calls.{Chip, Call, Result, aReset, aRawWrite, anEccWrite, aJob, aRehearsal, perform, performAll}
+use Rattle.laws.specs.Calls.{Chip, Call, aReset, aRawWrite, anEccWrite, aJob, aRehearsal, perform, performAll}
+use Rattle.laws.specs.Cuts.{newlySet}
 use Rattle.laws.specs.Writes.{In}
 
 -- every refusal returns value 0, condition clean and 0 pulses, and leaves each row and the state unchanged
@@ -28,9 +32,15 @@ RefusalKeeps =
     → (perform chip call .answer .value ≡ 0) × (perform chip call .answer .condition ≡ Clean)
     × (perform chip call .answer .pulses ≡ 0) × (perform chip call .chip ≡ chip)
 
--- any two results that are what the definitions say are equal
-abbrev pub NoRoom : Type 0
-NoRoom = (chip : Chip) (call : Call) (a b : Result) → a ≡ perform chip call → b ≡ perform chip call → a ≡ b
+-- what a contract here allows: the one outcome that a definition gives at the arguments
+abbrev pub Allows : {Arguments Outcome : Type 0} → (Arguments → Outcome) → Arguments → Outcome → Type 0
+Allows definition arguments outcome = outcome ≡ definition arguments
+
+-- any two outcomes that such a contract allows are equal
+abbrev pub NoRoom : Type 1
+NoRoom =
+    (Arguments Outcome : Type 0) (definition : Arguments → Outcome) (arguments : Arguments) (a b : Outcome)
+    → Allows definition arguments a → Allows definition arguments b → a ≡ b
 
 -- no burnt bit clears, over any calls
 abbrev pub NoBitClears : Type 0
@@ -54,6 +64,18 @@ WriteReadsBack =
     → writeEcc rows state writer row value .outcome .answer .number ≡ 0
     → readEccNumber (writeEcc rows state writer row value .rows) state reader row ≡ 0
     → readEcc (writeEcc rows state writer row value .rows) state reader row ≡ found value Clean
+
+-- who may write a row may read it
+abbrev pub MayWriteMayRead : Type 0
+MayWriteMayRead = (state : State) (caller row : ℕ) → mayWrite state caller row ≡ true → mayRead state caller row ≡ true
+
+-- so an ECC write that isn't refused reads back as its value to its own writer, and nothing more is asked
+abbrev pub WriterReadsBack : Type 0
+WriterReadsBack =
+    (rows : List ℕ) (state : State) (writer row value : ℕ)
+    → writeEcc rows state writer row value .outcome .answer .number ≡ 0
+    → readEcc (writeEcc rows state writer row value .rows) (writeEcc rows state writer row value .outcome .state) writer row
+    ≡ found value Clean
 
 -- a raw write only adds its bits
 abbrev pub RawAdds : Type 0
@@ -83,6 +105,26 @@ OneBitNeverNine =
 abbrev pub SoftLocksFallBack : Type 0
 SoftLocksFallBack = (rows : List ℕ) (a b : State) → resetNumber rows ≡ 0 → reset rows a ≡ reset rows b
 
+-- after a done reset each level is that of the voted field of its lock row
+abbrev pub LevelsFallBack : Type 0
+LevelsFallBack =
+    (rows : List ℕ) (state : State) (page : ℕ) → resetNumber rows ≡ 0 → page < 64
+    → (shownLevel (reset rows state .state) 0 page ≡ levelOf (secureField (rowAt rows (highLockRow page))))
+    × (shownLevel (reset rows state .state) 1 page ≡ levelOf (nonsecureField (rowAt rows (highLockRow page))))
+
+-- advancing leaves the higher of the present and the asked level
+abbrev pub AdvanceLeavesHigher : Type 0
+AdvanceLeavesHigher =
+    (state : State) (caller domain page level : ℕ) → advance state caller domain page level .answer .number ≡ 0
+    → shownLevel (advance state caller domain page level .state) domain page ≡ max (shownLevel state domain page) level
+
+-- and every other level, of its domain and the other, as it was
+abbrev pub AdvanceLeavesOthers : Type 0
+AdvanceLeavesOthers =
+    (state : State) (caller domain page level : ℕ) → advance state caller domain page level .answer .number ≡ 0
+    → (otherDomain otherPage : ℕ) → otherDomain ≤ 1 → (otherDomain ≡ domain → otherPage ≡ page → ⊥)
+    → shownLevel (advance state caller domain page level .state) otherDomain otherPage ≡ shownLevel state otherDomain otherPage
+
 -- writes, jobs and rehearsals
 pub data Burns : Call → Type 0 where
   rawWrite : {caller row value : ℕ} → Burns (aRawWrite caller row value)
@@ -94,3 +136,9 @@ pub data Burns : Call → Type 0 where
 abbrev pub BurningLatchesNothing : Type 0
 BurningLatchesNothing =
     (chip : Chip) (call : Call) → Burns call → perform chip call .chip .state ≡ chip .state
+
+-- pulses are the bits newly set, of every done call that burns
+abbrev pub PulsesAreNewBits : Type 0
+PulsesAreNewBits =
+    (chip : Chip) (call : Call) → Burns call → perform chip call .answer .number ≡ 0
+    → perform chip call .answer .pulses ≡ newlySet (chip .rows) (perform chip call .chip .rows)

@@ -1,0 +1,27 @@
+-- Who may write a row may read it.
+-- Assumes nothing.
+use mathlib.Core.Bool.{Bool, true, false, _&&_, _||_, and-eq-true-iff}
+use mathlib.Core.Path.{_≡_, refl}
+use Prim.Native.Nat.{ℕ}
+use borrow.Author.Tests.{eqb-true}
+use lib.Dec.{eqb}
+use Rattle.chip.specs.Pages.{isLockRow, owner}
+use Rattle.chip.specs.Permission.{rowKeyLevel, callerLevel, mayRead, mayWrite}
+use Rattle.chip.specs.States.{countedLevel}
+use Rattle.chip.specs.declared.state.State.{State}
+use Rattle.laws.specs.Promises.{MayWriteMayRead}
+
+or-true : (t : Bool) → (t || true) ≡ true
+or-true true = refl
+or-true false = refl
+
+pub mayWriteMayRead : MayWriteMayRead
+unfolding mayWrite mayRead
+mayWriteMayRead state caller row may =
+    let own : Bool = eqb (callerLevel state caller row) 0 in
+    let secure : Bool = eqb (countedLevel (state .secure) (owner row)) 0 in
+    let key : Bool = eqb (rowKeyLevel state row) 0 in
+    let parts = and-eq-true-iff (own && secure) key .0 may in
+    let level : callerLevel state caller row ≡ 0 = eqb-true (callerLevel state caller row) 0 (and-eq-true-iff own secure .0 (parts .0) .0) in
+    let key-level : rowKeyLevel state row ≡ 0 = eqb-true (rowKeyLevel state row) 0 (parts .1) in
+    rw (level, key-level) (or-true (isLockRow row))
