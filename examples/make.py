@@ -1,12 +1,13 @@
 #!/usr/bin/env python3
-"""Makes the example images and jobs beside this file, so that a reader can see what they hold.
+"""Makes the example images and jobs, so that a reader can see what they hold: beside this file, or in the folder that is given.
 
 An image is 4,096 rows, each a 32-bit number, low byte first. Document 01 says what the rows and the job bytes mean.
 Nothing here uses the proved library: the code of a value is worked out anew from document 01's masks.
 """
+import sys
 from pathlib import Path
 
-HERE = Path(__file__).resolve().parent
+FOLDER = Path(sys.argv[1]) if len(sys.argv) > 1 else Path(__file__).resolve().parent
 MASKS = (0x00AD5B, 0x00366D, 0x00C78E, 0x0007F0, 0x00F800, 0x1FFFFF)
 
 # Key 1 and key 2, as --key takes them.
@@ -90,7 +91,7 @@ def worn():
 
 
 def image(name, rows):
-    (HERE / name).write_bytes(b"".join(row.to_bytes(4, "little") for row in rows))
+    (FOLDER / name).write_bytes(b"".join(row.to_bytes(4, "little") for row in rows))
 
 
 def job(name, entries):
@@ -98,7 +99,7 @@ def job(name, entries):
     body = b"".join(
         row.to_bytes(2, "little") + bytes([kind]) + value.to_bytes(3, "little") for row, kind, value in entries
     )
-    (HERE / name).write_bytes(b"OTJ" + (1).to_bytes(2, "little") + len(entries).to_bytes(2, "little") + body)
+    (FOLDER / name).write_bytes(b"OTJ" + (1).to_bytes(2, "little") + len(entries).to_bytes(2, "little") + body)
 
 
 ECC, RAW = 0, 1
