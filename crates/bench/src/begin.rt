@@ -1,13 +1,12 @@
 // What every command on an image begins with: the image, a reset, and the key where one is given.
 use crate::ended::Ended;
 use crate::files;
-use crate::refusals;
+use crate::reset_refusals;
 use crate::usage;
 use crate::words;
 use crate::words::Words;
 use chip::calls::enter_key;
 use chip::resetting::reset;
-use chip::state::Key;
 use chip::state::State;
 
 // The state of the chip, or how the command ended before there was one.
@@ -17,30 +16,8 @@ pub struct Begun {
     pub state: State,
 }
 
-// The state that goes into the reset, which latches all of it.
-fn unlatched() -> State {
-    let levels = [0u8; 64];
-    let flags = [false; 64];
-    let words = [0u16; 8];
-    let blank = Key {
-        words,
-        valid: false,
-        whole: false,
-    };
-    let keys = [blank; 6];
-    State {
-        secure: levels,
-        nonsecure: levels,
-        writekey: levels,
-        readkey: levels,
-        nokey: flags,
-        keys,
-        entered: words,
-    }
-}
-
 fn not_begun(ended: Ended) -> Begun {
-    let state = unlatched();
+    let state = State::zeros();
     Begun {
         ready: false,
         ended,
@@ -50,11 +27,11 @@ fn not_begun(ended: Ended) -> Begun {
 
 // The image after a reset.
 fn after_reset(rows: &[u32]) -> Begun {
-    let outcome = reset(rows, unlatched());
+    let outcome = reset(rows, State::zeros());
     let answer = outcome.answer;
     let number = answer.number;
     if number != 0 {
-        refusals::image(number, rows);
+        reset_refusals::lines(number, rows);
         return not_begun(Ended::Answered(number));
     }
     let state = outcome.state;

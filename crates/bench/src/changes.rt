@@ -1,9 +1,9 @@
-// What a rehearsal changed: a line for each row, with its old and its new bits.
+// What a rehearsal did: a line for each entry, with the old and the new bits of its row.
 use crate::print;
+use access::rows::row_at;
 use job::entries::Entry;
 use job::entries::count_of;
 use job::entries::entry_at;
-use job::rows::entry_of;
 use job::verdicts::entry_written;
 use row::writing::pulses;
 
@@ -15,7 +15,7 @@ fn kind_and_value(entry: Entry) {
     print::bits_after(b"raw   ", entry.value);
 }
 
-// Which polarity an ECC entry takes, and how much of a cut entry is left to burn.
+// Which polarity an ECC entry takes, and what there was or is left to burn.
 fn remark(entry: Entry, old: u32, new: u32) {
     let written = entry_written(old, entry);
     if entry.kind == 0 {
@@ -23,10 +23,24 @@ fn remark(entry: Entry, old: u32, new: u32) {
             print::text(b", inverted");
         }
     }
-    if written.row != new {
-        print::number_after(b", cut off with ", pulses(new, written.row));
-        print::text(b" to go");
+    burning(old, new, written.row);
+}
+
+// How far the burning of a row came, from its old bits to those that it must have.
+fn burning(old: u32, new: u32, must: u32) {
+    if old == must {
+        print::text(b", stands already");
+        return;
     }
+    if new == must {
+        return;
+    }
+    if new == old {
+        print::text(b", not reached");
+        return;
+    }
+    print::number_after(b", cut off with ", pulses(new, must));
+    print::text(b" to go");
 }
 
 // "0x0c0  0x000000 -> 0x230001  +4      ECC   0x0001"
@@ -41,15 +55,13 @@ fn change(entry: Entry, old: u32, new: u32) {
     print::end();
 }
 
-// A line for each entry whose row is not what it was.
+// A line for each entry.
 pub fn lines(before: &[u32], after: &[u32], job: &[u8]) {
     let count = count_of(job);
     for place in 0..count {
         let entry = entry_at(job, place);
-        let old = entry_of(before, entry.row);
-        let new = entry_of(after, entry.row);
-        if old != new {
-            change(entry, old, new);
-        }
+        let old = row_at(before, entry.row);
+        let new = row_at(after, entry.row);
+        change(entry, old, new);
     }
 }

@@ -3,6 +3,10 @@ use crate::print;
 use crate::words;
 
 fn other_reason(error: i32) {
+    if error == libc::ENAMETOOLONG {
+        print::line(b"its name is too long");
+        return;
+    }
     if error == libc::ENOTDIR {
         print::line(b"a part of its path is no folder");
         return;

@@ -15,6 +15,11 @@ enum Loaded {
 fn load(place: usize, bytes: &mut [u8]) -> Loaded {
     let mut path = io::buffer();
     let n = os::arg(place, &mut path);
+    let long = os::errno();
+    if long != 0 {
+        unread(place, long);
+        return Loaded::Nothing;
+    }
     let fd = os::open_read(&path[..n]);
     if fd < 0 {
         unread(place, os::errno());
@@ -95,14 +100,11 @@ pub enum Length {
     Not,
 }
 
-// Reads a job.
-pub fn load_job(place: usize, job: &mut [u8; 3079]) -> Length {
+// Reads a job. One byte more than the longest has is room enough: whatever is longer is malformed, and so are its first 3,080 bytes.
+pub fn load_job(place: usize, job: &mut [u8; 3080]) -> Length {
     match load(place, job) {
         Loaded::Bytes(n) => Length::Is(n),
-        Loaded::More => {
-            said(place, b"a job has at most 3079 bytes, and this file more\n");
-            Length::Not
-        }
+        Loaded::More => Length::Is(3080),
         Loaded::Nothing => Length::Not,
     }
 }

@@ -3,13 +3,14 @@ use crate::ended::Ended;
 use crate::print;
 
 fn commands() {
-    print::line(b"./otp rehearse IMAGE JOB [LIMIT] [--key HEX32] [--save OUT]");
+    print::line(b"./otp rehearse IMAGE JOB [LIMIT] [--key HEX32] [--save OUT [--replace]]");
     print::line(
         b"    Judges the job, burns it into a copy of the image, and shows what changes, row by row.",
     );
     print::line(
-        b"    LIMIT stops it after so many pulses. --save writes the image as the job leaves it.",
+        b"    LIMIT stops it after so many pulses. --save writes the image as the job leaves it,",
     );
+    print::line(b"    never over the image or the job, and over another file only with --replace.");
     print::line(b"./otp read IMAGE ROW [--raw | --vote 3 | --vote 8] [--non-secure] [--key HEX32]");
     print::line(
         b"    Reads a row with ECC, as it is, or by a vote of it and the rows that follow it.",

@@ -4,10 +4,12 @@ mod begin;
 mod changes;
 mod code;
 mod ended;
+mod entered_key;
 mod file_errors;
 mod files;
 mod help;
 mod job_refusals;
+mod levels;
 mod numbers;
 mod owner;
 mod page_line;
@@ -15,8 +17,11 @@ mod pages;
 mod print;
 mod read;
 mod refusals;
+mod refused_row;
 mod rehearse;
+mod reset_refusals;
 mod saving;
+mod shown;
 mod usage;
 mod words;
 
@@ -35,7 +40,7 @@ fn command() -> Ended {
     if words::is(1, b"code") {
         return code::run();
     }
-    if words::is(1, b"help") || words::is(1, b"--help") {
+    if words::is(1, b"help") || words::is(1, b"--help") || words::is(1, b"-h") {
         return help::run();
     }
     usage::no_command()

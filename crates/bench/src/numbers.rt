@@ -70,7 +70,7 @@ fn is_hexadecimal(text: &[u8]) -> bool {
     if text[0] != b'0' {
         return false;
     }
-    text[1] == b'x'
+    text[1] == b'x' || text[1] == b'X'
 }
 
 // The number that a text spells.

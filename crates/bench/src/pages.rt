@@ -2,6 +2,7 @@
 ghost use Prim.Native.Nat.{_<_};
 use crate::begin::begin;
 use crate::ended::Ended;
+use crate::entered_key;
 use crate::page_line::Line;
 use crate::page_line::line_of;
 use crate::page_line::same;
@@ -114,27 +115,13 @@ fn key_lines(state: State) {
     }
 }
 
-fn any_matches(state: State) -> bool {
-    matches(state, 1)
-        || matches(state, 2)
-        || matches(state, 3)
-        || matches(state, 4)
-        || matches(state, 5)
-        || matches(state, 6)
-}
-
-fn show(rows: &[u32; 4096], state: State, entered: bool) {
+fn show(rows: &[u32; 4096], state: State) {
     titles();
     lines(rows, state);
     print::end();
     print::line(b"S is Secure, N Non-secure. Level 0 reads and writes, 1 reads, 2 does neither.");
     print::line(b"* A lock row is always read, and is written as the page that it locks allows.");
     key_lines(state);
-    if entered {
-        if !any_matches(state) {
-            print::line(b"The key entered is none that is valid.");
-        }
-    }
 }
 
 pub fn run() -> Ended {
@@ -156,6 +143,7 @@ pub fn run() -> Ended {
         return ended;
     }
     let state = begun.state;
-    show(&rows, state, words.key != 0);
+    show(&rows, state);
+    entered_key::line(words, state);
     Ended::Answered(0)
 }

@@ -1,10 +1,14 @@
 // How the screens are written: words, numbers in decimal, rows and values in hexadecimal, fields of bits.
 ghost use Prim.Native.Nat.{_≤_};
 use libc::STDOUT_FILENO;
-
-pub fn text(words: &[u8]) {
-    io::write_all(STDOUT_FILENO, words);
-}
+pub use screen::print::bits;
+pub use screen::print::blanks;
+pub use screen::print::hexadecimal;
+pub use screen::print::left;
+pub use screen::print::number;
+pub use screen::print::right;
+pub use screen::print::text;
+pub use screen::print::value;
 
 pub fn end() {
     text(b"\n");
@@ -15,30 +19,9 @@ pub fn line(words: &[u8]) {
     end();
 }
 
-pub fn number(n: u32) {
-    io::print_decimal(STDOUT_FILENO, n as u64);
-}
-
 // A number of bytes.
 pub fn bytes(n: usize) {
     io::print_decimal(STDOUT_FILENO, n as u64);
-}
-
-pub fn blanks(n: usize) {
-    let spaces: &[u8] = b"                                ";
-    if n <= spaces.len() {
-        text(&spaces[0..n]);
-    }
-}
-
-// A number that ends its column.
-pub fn right(n: u32, width: usize) {
-    let mut digits = [0u8; 20];
-    let k = io::decimal(n as u64, &mut digits);
-    if k < width {
-        blanks(width - k);
-    }
-    text(&digits[..k]);
 }
 
 // A number that begins its column.
@@ -61,19 +44,6 @@ pub fn counted(n: u32, what: &[u8]) {
     }
 }
 
-// Words that begin their column.
-pub fn left(words: &[u8], width: usize) {
-    text(words);
-    if words.len() < width {
-        blanks(width - words.len());
-    }
-}
-
-fn hexadecimal(n: u32, width: usize) {
-    text(b"0x");
-    io::print_hex(STDOUT_FILENO, n as u64, width);
-}
-
 // The number of a row, as the datasheet has it.
 pub fn row(n: u32) {
     hexadecimal(n, 3);
@@ -86,17 +56,7 @@ pub fn rows(first: u32, last: u32) {
     row(last);
 }
 
-// A value of 16 bits.
-pub fn value(n: u32) {
-    hexadecimal(n, 4);
-}
-
-// The 24 bits of a row.
-pub fn bits(n: u32) {
-    hexadecimal(n, 6);
-}
-
-// The same, after words that lead to it.
+// A number, a value or bits, after words that lead to it.
 pub fn number_after(words: &[u8], n: u32) {
     text(words);
     number(n);

@@ -2,10 +2,13 @@
 ghost use Prim.Native.Nat.{_≤_};
 use crate::begin::begin;
 use crate::ended::Ended;
+use crate::entered_key;
+use crate::levels;
 use crate::numbers::Number;
 use crate::owner;
 use crate::print;
 use crate::refusals;
+use crate::refused_row::refused_row;
 use crate::usage;
 use crate::usage::Takes;
 use crate::words;
@@ -147,9 +150,14 @@ fn bits_lines(rows: &[u32], state: State, caller: u32, row: u32, count: u32)
 fn show(rows: &[u32; 4096], state: State, caller: u32, row: u32, way: Way) -> Ended {
     let answer = answer_of(rows, state, caller, row, way);
     let number = answer.number;
-    refusals::row(number, row);
     if 4095 < row {
+        refusals::row(number, row);
         return Ended::Answered(number);
+    }
+    let about = refused_row(rows, state, caller, row, span(way), number);
+    refusals::row(number, about);
+    if number == 7 {
+        levels::line(state, caller, about, b", and a read needs both at most 1");
     }
     title(caller, row, way);
     if number == 0 {
@@ -157,7 +165,9 @@ fn show(rows: &[u32; 4096], state: State, caller: u32, row: u32, way: Way) -> En
     }
     bits_titles();
     bits_lines(rows, state, caller, row, span(way));
-    owner::lines(state, row);
+    if about <= 4095 {
+        owner::lines(state, about);
+    }
     Ended::Answered(number)
 }
 
@@ -170,7 +180,9 @@ fn on_image(words: Words, row: u32, way: Way) -> Ended {
     }
     let state = begun.state;
     let caller = if words.nonsecure == 0 { 0 } else { 1 };
-    show(&rows, state, caller, row, way)
+    let ended = show(&rows, state, caller, row, way);
+    entered_key::line(words, state);
+    ended
 }
 
 // The way that the options ask for.

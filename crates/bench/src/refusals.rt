@@ -1,6 +1,5 @@
 // The answers as number and words (document 01, "The numbers we answer with").
 use crate::print;
-use job::rows::entry_of;
 
 fn words_to_five(number: u32) {
     match number {
@@ -40,27 +39,11 @@ pub fn of_row(row: u32) {
     print::row(row);
 }
 
-// An answer on one row.
+// An answer on one row. A vote's count, which 4 is about, is no row's.
 pub fn row(number: u32, row: u32) {
     number_and_words(number);
-    if number != 0 {
+    if number != 0 && number != 4 {
         of_row(row);
     }
     print::end();
-}
-
-// The first row whose entry is above 24 bits.
-fn first_too_large(rows: &[u32]) -> u32 {
-    for row in 0..4096 {
-        if 16777215 < entry_of(rows, row) {
-            return row;
-        }
-    }
-    0
-}
-
-// A refused reset: one line, with the row that has too much in it.
-pub fn image(number: u32, rows: &[u32]) {
-    let first = first_too_large(rows);
-    row(number, first);
 }

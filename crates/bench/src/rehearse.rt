@@ -2,6 +2,7 @@
 use crate::begin::begin;
 use crate::changes;
 use crate::ended::Ended;
+use crate::entered_key;
 use crate::files;
 use crate::files::Length;
 use crate::job_refusals;
@@ -21,11 +22,17 @@ use row::answer::Answer;
 // More pulses than any job takes: 512 entries of 24 bits.
 const NO_LIMIT: u32 = 12288;
 
-// "2 of 3 entries stand, 8 pulses, limit 8"
-fn summary(answer: Answer, count: u32, words: Words, limit: u32) {
+// "2 of 3 entries stand"
+fn standing(answer: Answer, count: u32) {
     print::number(answer.place);
     print::number_after(b" of ", count);
-    print::text(b" entries stand, ");
+    print::text(b" entries stand");
+}
+
+// "2 of 3 entries stand, 8 pulses, limit 8"
+fn summary(answer: Answer, count: u32, words: Words, limit: u32) {
+    standing(answer, count);
+    print::text(b", ");
     print::counted(answer.pulses, b"pulse");
     limit_words(words, limit);
 }
@@ -39,10 +46,25 @@ fn limit_words(words: Words, limit: u32) {
     print::end();
 }
 
+// The first line decides what a person does next, so it says where the limit cut the job.
+fn headline(answer: Answer, count: u32) {
+    if answer.place == count {
+        refusals::number_and_words(0);
+        print::end();
+        return;
+    }
+    print::text(b"0: cut after ");
+    print::counted(answer.pulses, b"pulse");
+    print::text(b": ");
+    standing(answer, count);
+    print::end();
+}
+
 fn show(before: &[u32; 4096], after: &[u32; 4096], job: &[u8], answer: Answer) {
-    refusals::number_and_words(0);
-    print::text(b"\n\n");
-    if answer.pulses == 0 {
+    let count = count_of(job);
+    headline(answer, count);
+    print::end();
+    if count == 0 {
         print::line(b"no row changes");
     } else {
         print::line(b"row    old         new       pulses  kind  value");
@@ -78,6 +100,7 @@ fn rehearsed(words: Words, before: &[u32; 4096], state: State, job: &[u8], limit
     let answer = burnt(&mut after, state, job, limit);
     if answer.number != 0 {
         job_refusals::lines(before, state, job, answer);
+        entered_key::line(words, state);
         return Ended::Answered(answer.number);
     }
     if !saved(words, &after) {
@@ -86,6 +109,7 @@ fn rehearsed(words: Words, before: &[u32; 4096], state: State, job: &[u8], limit
     show(before, &after, job, answer);
     summary(answer, count_of(job), words, limit);
     saved_line(words);
+    entered_key::line(words, state);
     Ended::Answered(0)
 }
 
@@ -94,7 +118,7 @@ fn on_bytes(
     words: Words,
     rows: &[u32; 4096],
     state: State,
-    bytes: &[u8; 3079],
+    bytes: &[u8; 3080],
     length: usize,
     limit: u32,
 ) -> Ended {
@@ -113,7 +137,7 @@ fn on_files(words: Words, limit: u32) -> Ended {
         return ended;
     }
     let state = begun.state;
-    let mut job = [0u8; 3079];
+    let mut job = [0u8; 3080];
     match files::load_job(words.second, &mut job) {
         Length::Is(n) => on_bytes(words, &rows, state, &job, n, limit),
         Length::Not => Ended::File,

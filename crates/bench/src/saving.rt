@@ -65,8 +65,11 @@ fn write_beside(path: &[u8], temporary: &[u8], bytes: &[u8]) -> i32 {
     0
 }
 
-// A name with '.part' after it: how long it then is, or 0 where there is no room.
+// A name with '.part' after it: how long it then is, or 0 where there is no name or no room.
 fn with_part(name: &mut [u8; 4096], n: usize) -> usize {
+    if n == 0 {
+        return 0;
+    }
     if 4090 < n {
         return 0;
     }
@@ -81,6 +84,9 @@ fn with_part(name: &mut [u8; 4096], n: usize) -> usize {
 // The same, with the temporary name at the start of an array.
 fn write(path: &[u8], temporary: &[u8; 4096], length: usize, bytes: &[u8; 16384]) -> i32 {
     let name: &[u8] = temporary;
+    if path.len() == 0 {
+        return libc::ENOENT;
+    }
     if length == 0 {
         return libc::ENAMETOOLONG;
     }
@@ -96,6 +102,11 @@ pub fn save(place: usize, rows: &[u32; 4096]) -> bool {
     bytes_of(rows, &mut bytes);
     let mut path = [0u8; 4096];
     let n = os::arg(place, &mut path);
+    let long = os::errno();
+    if long != 0 {
+        unwritten(place, long);
+        return false;
+    }
     let mut temporary = [0u8; 4096];
     let m = os::arg(place, &mut temporary);
     let length = with_part(&mut temporary, m);

@@ -19,7 +19,7 @@ pub fn no_command() -> Ended {
         print::line(b"otp: no command; ./otp help shows them");
         return Ended::Usage;
     }
-    wrong(1, b"no such command")
+    wrong(1, b"no such command; ./otp help shows them")
 }
 
 // A word that is not what it must be.
@@ -76,6 +76,9 @@ fn stray(words: Words, takes: Takes) -> usize {
         if words.save != 0 {
             return before(words.save);
         }
+        if words.replace != 0 {
+            return words.replace;
+        }
     }
     if takes.ways {
         return 0;
@@ -104,6 +107,21 @@ fn stray_way(words: Words) -> usize {
     words.nonsecure
 }
 
+// An option that is given twice, or without the one that it goes with.
+fn odd_option(words: Words) -> bool {
+    if words.twice != 0 {
+        wrong(words.twice, b"given twice");
+        return true;
+    }
+    if words.replace != 0 {
+        if words.save == 0 {
+            wrong(words.replace, b"it goes with --save");
+            return true;
+        }
+    }
+    false
+}
+
 // Whether the words are those of the command. Where they are not, one line says so.
 pub fn fit(words: Words, takes: Takes) -> bool {
     let place = stray(words, takes);
@@ -125,5 +143,5 @@ pub fn fit(words: Words, takes: Takes) -> bool {
         wrong(1, b"a word is missing; ./otp help shows what it takes");
         return false;
     }
-    true
+    !odd_option(words)
 }

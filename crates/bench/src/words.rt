@@ -1,7 +1,7 @@
 // The words that the command was given. Each is known by its place, and read again where it is needed.
 use crate::numbers;
 use crate::numbers::Number;
-use crate::print;
+use crate::shown;
 
 // The places of what was given, 0 for what was not. `first` to `third` are the words that follow no option.
 pub struct Words {
@@ -10,13 +10,15 @@ pub struct Words {
     pub third: usize,
     pub key: usize,
     pub save: usize,
+    pub replace: usize,
     pub vote: usize,
     pub raw: usize,
     pub nonsecure: usize,
     // The option whose value comes next, as one of the numbers below.
     pub awaited: u32,
-    // The first word that fits nowhere.
+    // The first word that fits nowhere, and the first option that was given before.
     pub wrong: usize,
+    pub twice: usize,
 }
 
 // What can be awaited.
@@ -48,9 +50,13 @@ pub fn is(place: usize, name: &[u8]) -> bool {
 }
 
 pub fn print_word(place: usize) {
-    let mut word = io::buffer();
+    let mut word = [0u8; 4096];
     let n = os::arg(place, &mut word);
-    print::text(&word[..n]);
+    if os::errno() == libc::ENAMETOOLONG {
+        shown::beginning(&word);
+        return;
+    }
+    shown::whole(&word[..n]);
 }
 
 // The number that a word spells.
@@ -85,29 +91,21 @@ fn with_plain(mut words: Words, place: usize) -> Words {
     words
 }
 
-// The value of the option before it. An option that is given twice is wrong.
+// The value of the option before it.
 fn with_value(mut words: Words, place: usize) -> Words {
     let awaited = words.awaited;
     words.awaited = NOTHING;
-    if awaited == KEY {
-        if words.key == 0 {
+    match awaited {
+        KEY => {
             words.key = place;
-            return words;
         }
-    }
-    if awaited == SAVE {
-        if words.save == 0 {
+        SAVE => {
             words.save = place;
-            return words;
         }
-    }
-    if awaited == VOTE {
-        if words.vote == 0 {
+        _ => {
             words.vote = place;
-            return words;
         }
     }
-    words.wrong = place;
     words
 }
 
@@ -117,34 +115,53 @@ fn is_option(place: usize) -> bool {
     word[0] == b'-'
 }
 
-fn with_option(mut words: Words, place: usize) -> Words {
-    if is(place, b"--key") {
-        words.awaited = KEY;
+// An option whose value comes next, and the place where a value of it stands already.
+fn awaiting(mut words: Words, option: u32, before: usize, place: usize) -> Words {
+    if before != 0 {
+        words.twice = place;
         return words;
+    }
+    words.awaited = option;
+    words
+}
+
+fn with_option(words: Words, place: usize) -> Words {
+    if is(place, b"--key") {
+        return awaiting(words, KEY, words.key, place);
     }
     if is(place, b"--save") {
-        words.awaited = SAVE;
-        return words;
+        return awaiting(words, SAVE, words.save, place);
     }
     if is(place, b"--vote") {
-        words.awaited = VOTE;
-        return words;
+        return awaiting(words, VOTE, words.vote, place);
     }
+    with_flag(words, place)
+}
+
+// An option that has no value.
+fn with_flag(mut words: Words, place: usize) -> Words {
+    let mut before = 0;
     if is(place, b"--raw") {
+        before = words.raw;
         words.raw = place;
-        return words;
-    }
-    if is(place, b"--non-secure") {
+    } else if is(place, b"--non-secure") {
+        before = words.nonsecure;
         words.nonsecure = place;
-        return words;
+    } else if is(place, b"--replace") {
+        before = words.replace;
+        words.replace = place;
+    } else {
+        words.wrong = place;
     }
-    words.wrong = place;
+    if before != 0 {
+        words.twice = place;
+    }
     words
 }
 
 // The words with one more of them taken. Nothing is taken after a wrong one.
 fn with(words: Words, place: usize) -> Words {
-    if words.wrong != 0 {
+    if words.wrong != 0 || words.twice != 0 {
         return words;
     }
     if words.awaited != NOTHING {
@@ -164,11 +181,13 @@ pub fn taken() -> Words {
         third: 0,
         key: 0,
         save: 0,
+        replace: 0,
         vote: 0,
         raw: 0,
         nonsecure: 0,
         awaited: NOTHING,
         wrong: 0,
+        twice: 0,
     };
     let count = os::arg_count();
     for place in 2..count {

@@ -2,10 +2,11 @@
 use Prim.Native.Nat.{ℕ, min}
 use mathlib.Core.Bool.{Bool, false}
 use mathlib.Core.List.{List}
-use lib.ListN.{getD}
+use lib.ListN.{getD, replicate}
 use lib.Dec.{eqb}
 use Rattle.row.specs.Choice.{if_then_else_}
 use Rattle.row.specs.Answers.{refused}
+use Rattle.chip.specs.declared.state.Key.{Key}
 use Rattle.chip.specs.declared.state.State.{State}
 use Rattle.chip.specs.declared.state.Outcome.{Outcome}
 
@@ -20,6 +21,22 @@ countedIndex indexes page = min (getD indexes page 0) 7
 -- the no-key state of a page
 abbrev pub countedNoKey : List Bool → ℕ → Bool
 countedNoKey nokeys page = getD nokeys page false
+
+-- a key of zeros, neither valid nor whole
+abbrev pub zeroKey : Key
+zeroKey = record { words = replicate 8 0; valid = false; whole = false }
+
+-- the state of zeros, which latches nothing: what a reset may be given where there is no state yet
+abbrev pub zeros : State
+zeros = record {
+  secure = replicate 64 0;
+  nonsecure = replicate 64 0;
+  writekey = replicate 64 0;
+  readkey = replicate 64 0;
+  nokey = replicate 64 false;
+  keys = replicate 6 zeroKey;
+  entered = replicate 8 0;
+}
 
 -- the state with other Secure levels
 abbrev pub withSecure : State → List ℕ → State

@@ -34,6 +34,28 @@ pub struct State {
     pub entered: Words,
 }
 
+impl State {
+    // All levels, indexes and words 0 and no flag set: for a caller who has no state yet, and whose first call is a reset.
+    pub fn zeros() -> State
+        ensures { λ r. ⌜ r ≡ spec.zeros ⌝ }
+    {
+        let key = Key {
+            words: [0; 8],
+            valid: false,
+            whole: false,
+        };
+        State {
+            secure: [0; 64],
+            nonsecure: [0; 64],
+            writekey: [0; 64],
+            readkey: [0; 64],
+            nokey: [false; 64],
+            keys: [key; 6],
+            entered: [0; 8],
+        }
+    }
+}
+
 // What a call that can change the state answers.
 pub struct Outcome {
     pub answer: Answer,
@@ -55,7 +77,7 @@ pub fn counted_level(levels: Levels, page: Page) -> u32
     ensures { λ r. ⌜ r ≡ spec.countedLevel levels (page .number) ⌝ }
 {
     let at = page.number as usize;
-    if 63 < at {
+    if Page::COUNT <= at {
         return 2;
     }
     let level = levels[at];
@@ -70,7 +92,7 @@ pub fn counted_index(indexes: Indexes, page: Page) -> u32
     ensures { λ r. ⌜ r ≡ spec.countedIndex indexes (page .number) ⌝ }
 {
     let at = page.number as usize;
-    if 63 < at {
+    if Page::COUNT <= at {
         return 0;
     }
     let index = indexes[at];
@@ -85,7 +107,7 @@ pub fn counted_no_key(nokeys: Flags, page: Page) -> bool
     ensures { λ r. ⌜ r ≡ spec.countedNoKey nokeys (page .number) ⌝ }
 {
     let at = page.number as usize;
-    if 63 < at {
+    if Page::COUNT <= at {
         return false;
     }
     nokeys[at]

@@ -30,38 +30,6 @@ pub fn must(said: Said) -> Answer {
     }
 }
 
-fn is_clean(condition: Condition) -> bool {
-    match condition {
-        Condition::Clean => true,
-        Condition::Repaired(_) => false,
-    }
-}
-
-fn is_repaired_at(condition: Condition, place: u32) -> bool {
-    match condition {
-        Condition::Clean => false,
-        Condition::Repaired(own) => own == place,
-    }
-}
-
-fn same_condition(a: Condition, b: Condition) -> bool {
-    match a {
-        Condition::Clean => is_clean(b),
-        Condition::Repaired(place) => is_repaired_at(b, place),
-    }
-}
-
-// The place, always 0 outside jobs, has no column, and is compared all the same.
-pub fn same(a: Answer, b: Answer) -> bool {
-    let a_condition = a.condition;
-    let b_condition = b.condition;
-    a.number == b.number
-        && a.value == b.value
-        && same_condition(a_condition, b_condition)
-        && a.place == b.place
-        && a.pulses == b.pulses
-}
-
 fn condition_column(condition: Condition) {
     match condition {
         Condition::Clean => {
@@ -69,7 +37,7 @@ fn condition_column(condition: Condition) {
         }
         Condition::Repaired(place) => {
             print::text(b" bit");
-            print::two_wide(place);
+            print::right(place, 2);
             print::text(b" ");
         }
     }
@@ -82,6 +50,6 @@ pub fn columns(answer: Answer) {
     print::text(b" ");
     print::bits(answer.value);
     condition_column(condition);
-    print::two_wide(answer.pulses);
+    print::right(answer.pulses, 2);
     print::text(b"  ");
 }

@@ -1,7 +1,7 @@
 // What a scene works on besides the rows: states, a key, and the tally.
 use crate::states;
-use crate::tally::Tally;
 use chip::state::State;
+use screen::tally::Tally;
 ghost use Prim.Native.Nat.{_≤_};
 
 // The rows of a chip and one more, since a slice can be too long.

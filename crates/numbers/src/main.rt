@@ -13,10 +13,10 @@ mod same;
 mod scene;
 mod state_calls;
 mod states;
-mod tally;
 mod text;
 
 use libc::STDIN_FILENO;
+use screen::tally;
 
 fn legend() {
     print::text(

@@ -5,23 +5,25 @@ use crate::board::ROWS;
 use crate::print;
 use crate::said::Said;
 use crate::same::same_state;
-use crate::tally;
 use chip::state::Outcome;
 use chip::state::State;
 use row::answer::Answer;
+use screen::same::same_answer;
+use screen::tally;
 
 // The word says what must be left, and "other" stands there where something else is.
 fn left_column(word: &[u8], as_must: bool) {
     if as_must {
-        print::column(word, 8);
+        print::left(word, 8);
     } else {
-        print::column(b"other", 8);
+        print::left(b"other", 8);
     }
 }
 
 fn finished(board: Board, said: Said, is: Answer, word: &[u8], as_must: bool) -> Board {
     let must = answers::must(said);
-    let right = answers::same(is, must) && as_must;
+    // The place, always 0 outside jobs, has no column, and is compared all the same.
+    let right = same_answer(is, must) && as_must;
     answers::columns(must);
     answers::columns(is);
     left_column(word, as_must);

@@ -2,13 +2,14 @@
 use crate::board::Board;
 use crate::board::ROWS;
 use crate::board::within;
+use crate::names;
 use crate::outcomes::answered;
 use crate::outcomes::must_rows;
 use crate::outcomes::written;
 use crate::said::Said;
-use crate::same::same_rows;
 use chip::state::Outcome;
 use chip::state::State;
+use screen::same::same_rows;
 
 // Given the caller and the row.
 pub fn read_raw(board: Board, rows: &[u32], said: Said) -> Board {
@@ -35,30 +36,19 @@ pub fn read_vote(board: Board, rows: &[u32], said: Said) -> Board {
     answered(board, said, is)
 }
 
-fn burn_raw(rows: &mut [u32], entries: u32, state: State, said: Said) -> Outcome {
+fn burn(rows: &mut [u32], entries: u32, state: State, name: usize, said: Said) -> Outcome {
     let end = within(entries, rows.len());
     let value = said.third;
+    if name == names::WRITE_ECC {
+        return access::writes::write_ecc(&mut rows[0..end], state, said.first, said.second, value);
+    }
     access::writes::write_raw(&mut rows[0..end], state, said.first, said.second, value)
 }
 
-// Given the caller, the row and the value.
-pub fn write_raw(board: Board, rows: &mut [u32; ROWS], said: Said) -> Board {
+// Either write. Given the caller, the row and the value.
+pub fn write(board: Board, rows: &mut [u32; ROWS], name: usize, said: Said) -> Board {
     let left = must_rows(*rows, said);
     let state = board.state;
-    let outcome = burn_raw(rows, board.entries, state, said);
-    written(board, said, outcome, same_rows(rows, &left))
-}
-
-fn burn_ecc(rows: &mut [u32], entries: u32, state: State, said: Said) -> Outcome {
-    let end = within(entries, rows.len());
-    let value = said.third;
-    access::writes::write_ecc(&mut rows[0..end], state, said.first, said.second, value)
-}
-
-// Given the caller, the row and the value.
-pub fn write_ecc(board: Board, rows: &mut [u32; ROWS], said: Said) -> Board {
-    let left = must_rows(*rows, said);
-    let state = board.state;
-    let outcome = burn_ecc(rows, board.entries, state, said);
+    let outcome = burn(rows, board.entries, state, name, said);
     written(board, said, outcome, same_rows(rows, &left))
 }

@@ -1,20 +1,6 @@
-// Whether what a call left is what must be: rows one by one, two states field by field.
+// Whether the state that a call left is what must be, field by field.
 use chip::state::Key;
 use chip::state::State;
-
-pub fn same_rows(a: &[u32], b: &[u32]) -> bool {
-    if a.len() != b.len() {
-        return false;
-    }
-    let mut i = 0;
-    while i < a.len() {
-        if a[i] != b[i] {
-            return false;
-        }
-        i += 1;
-    }
-    true
-}
 
 fn same_pages(a: [u8; 64], b: [u8; 64]) -> bool {
     let mut page = 0;

@@ -13,9 +13,9 @@ use crate::row_calls;
 use crate::said::Said;
 use crate::said::read_line;
 use crate::state_calls;
-use crate::tally;
-use crate::tally::Tally;
 use crate::text::find;
+use screen::tally;
+use screen::tally::Tally;
 
 fn called_on_rows(board: Board, rows: &mut [u32; ROWS], name: usize, said: Said) -> Board {
     if name == names::READ_RAW {
@@ -27,11 +27,8 @@ fn called_on_rows(board: Board, rows: &mut [u32; ROWS], name: usize, said: Said)
     if name == names::READ_VOTE {
         return row_calls::read_vote(board, rows, said);
     }
-    if name == names::WRITE_RAW {
-        return row_calls::write_raw(board, rows, said);
-    }
-    if name == names::WRITE_ECC {
-        return row_calls::write_ecc(board, rows, said);
+    if name == names::WRITE_RAW || name == names::WRITE_ECC {
+        return row_calls::write(board, rows, name, said);
     }
     print::text(b"no such line\n");
     board
@@ -61,8 +58,8 @@ fn tried(board: Board, rows: &mut [u32; ROWS], line: &[u8]) -> Board {
     let end = within(9, line.len());
     let bar = find(line, end, b'|');
     let special = find(line, bar, b' ');
-    print::column(&line[0..end], 9);
-    print::column(&line[special..], 36);
+    print::left(&line[0..end], 9);
+    print::left(&line[special..], 36);
     let name = names::place_of(&line[0..end]);
     called(board, rows, name, read_line(&line[end..bar]))
 }

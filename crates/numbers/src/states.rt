@@ -9,15 +9,9 @@ pub fn open() -> State {
         valid: false,
         whole: true,
     };
-    State {
-        secure: [0; 64],
-        nonsecure: [0; 64],
-        writekey: [0; 64],
-        readkey: [0; 64],
-        nokey: [false; 64],
-        keys: [blank; 6],
-        entered: [0; 8],
-    }
+    let mut state = State::zeros();
+    state.keys = [blank; 6];
+    state
 }
 
 pub fn with_secure(state: State, page: u32, level: u32) -> State {

@@ -1,9 +1,9 @@
 // Writing again over each row that a cut write can leave: the same row is reached, and the pulses
 // are the bits still missing.
 use crate::print;
-use crate::tally::Tally;
 use crate::write_lines::burnt;
 use crate::write_lines::ecc_line;
+use screen::tally::Tally;
 
 // A row between the old one and the burnt one, and the pulses that it still takes.
 struct Between(u32, u32);

@@ -4,11 +4,11 @@ use crate::read_lines::clean;
 use crate::read_lines::reads;
 use crate::samples::SAMPLES;
 use crate::samples::Sample;
-use crate::tally;
-use crate::tally::Tally;
 use row::coding::code;
 use row::coding::inverted;
 use row::coding::plain;
+use screen::tally;
+use screen::tally::Tally;
 
 // How many of the two undamaged rows read the value, clean.
 fn clean_reads(sample: Sample) -> u32 {
@@ -18,7 +18,7 @@ fn clean_reads(sample: Sample) -> u32 {
 }
 
 fn row_column(bits: u32) {
-    print::row(bits);
+    print::bits(bits);
     print::text(b"  ");
 }
 

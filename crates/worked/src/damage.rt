@@ -8,8 +8,8 @@ use crate::read_lines::refused;
 use crate::read_lines::repaired;
 use crate::samples::SAMPLES;
 use crate::samples::Sample;
-use crate::tally;
-use crate::tally::Tally;
+use screen::tally;
+use screen::tally::Tally;
 
 // How many of bits 21:0, each flipped by itself, are repaired to the value.
 fn repaired_places(row: u32, value: u32) -> u32 {

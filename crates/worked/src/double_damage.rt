@@ -3,8 +3,8 @@
 use crate::print;
 use crate::read_lines::reads;
 use crate::read_lines::refused;
-use crate::tally;
-use crate::tally::Tally;
+use screen::tally;
+use screen::tally::Tally;
 ghost use Prim.Native.Nat.{_<_};
 
 // How many of the bits below a place, where the row is flipped already, have it refused.

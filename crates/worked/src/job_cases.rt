@@ -4,10 +4,10 @@ use crate::job_lines::Board;
 use crate::job_lines::Must;
 use crate::job_lines::job_line;
 use crate::job_lines::ready;
-use crate::job_lines::same;
 use crate::print;
-use crate::tally::Tally;
 use job::jobs::run_job;
+use screen::same::same_rows;
+use screen::tally::Tally;
 
 // Page 5 is read only to Secure, and row 0x0c1 has two bits that no polarity of 1 holds.
 fn board() -> Board {
@@ -25,7 +25,7 @@ fn case(before: Tally, name: &[u8], bytes: &[u8], must: Must) -> Tally {
     let first = rows;
     let outcome = run_job(&mut rows, state, bytes);
     let answer = outcome.answer;
-    let kept = answer.number == 0 || same(&rows, &first);
+    let kept = answer.number == 0 || same_rows(&rows, &first);
     job_line(before, name, answer, must, kept)
 }
 

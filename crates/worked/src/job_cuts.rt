@@ -1,15 +1,17 @@
 // A job cut after each of its pulses, then a reset and the full job (document 01, "Jobs"): the rows of the uncut run, and pulses
 // that add up. And the longest job.
+use crate::job_lines::Board;
 use crate::job_lines::Must;
 use crate::job_lines::answer_line;
 use crate::job_lines::job_line;
 use crate::job_lines::ready;
-use crate::job_lines::same;
 use crate::print;
-use crate::tally;
-use crate::tally::Tally;
 use job::jobs::rehearse;
 use job::jobs::run_job;
+use row::answer::Answer;
+use screen::same::same_rows;
+use screen::tally;
+use screen::tally::Tally;
 
 // Five ECC entries from row 0x0c0: 0x5053, 0x004c, 1, 320 and 240.
 const CARD: [u8; 37] = [
@@ -64,23 +66,33 @@ fn standing(pulses: u32) -> u32 {
     entries
 }
 
+// The full job after a reset.
+fn reset_and_run(rows: &mut Board, job: &[u8]) -> Answer {
+    let state = ready(rows);
+    let outcome = run_job(rows, state, job);
+    outcome.answer
+}
+
+// A job cut by a limit after a reset.
+fn reset_and_rehearse(rows: &mut Board, job: &[u8], limit: u32) -> Answer {
+    let state = ready(rows);
+    let outcome = rehearse(rows, state, job, limit);
+    outcome.answer
+}
+
 // One cut: what the rehearsal must answer, and whether the full job after a reset leaves the uncut rows for the other pulses.
-fn cut(before: Tally, limit: u32, job: &[u8], whole: &mut [u32], rows: &mut [u32]) -> Tally {
-    let fresh = ready(whole);
-    run_job(whole, fresh, job);
-    let outcome = rehearse(rows, fresh, job, limit);
-    let answer = outcome.answer;
-    let later = ready(rows);
-    let again = run_job(rows, later, job);
-    let rest = again.answer;
+fn cut(before: Tally, limit: u32, job: &[u8], whole: &mut Board, rows: &mut Board) -> Tally {
+    reset_and_run(whole, job);
+    let answer = reset_and_rehearse(rows, job, limit);
+    let rest = reset_and_run(rows, job);
     let adds = rest.number == 0 && rest.place == 5 && tally::sum(answer.pulses, rest.pulses) == 28;
     let must = Must(0, standing(limit), limit);
     print::text(b"limit ");
-    print::two_wide(limit);
+    print::right(limit, 2);
     print::text(b", then ");
-    print::two_wide(rest.pulses);
+    print::right(rest.pulses, 2);
     print::text(b" more        ");
-    let left = same(rows, whole);
+    let left = same_rows(rows, whole);
     answer_line(before, answer, must, adds && left)
 }
 
@@ -104,9 +116,7 @@ fn cut_lines(before: Tally) -> Tally {
 fn one_entry(before: Tally) -> Tally {
     let job = b"\x4f\x54\x4a\x01\x00\x01\x00\xc0\x00\x00\x01\x00\x00";
     let mut rows = [0u32; 4096];
-    let fresh = ready(&rows);
-    let cut = rehearse(&mut rows, fresh, job, 2);
-    let first = cut.answer;
+    let first = reset_and_rehearse(&mut rows, job, 2);
     let half = job_line(
         before,
         b"limit 2 leaves 0x010001",
@@ -114,9 +124,7 @@ fn one_entry(before: Tally) -> Tally {
         Must(0, 0, 2),
         rows[0x0c0] == 0x010001,
     );
-    let later = ready(&rows);
-    let full = run_job(&mut rows, later, job);
-    let second = full.answer;
+    let second = reset_and_run(&mut rows, job);
     job_line(
         half,
         b"2 more leave 0x230001",
@@ -145,14 +153,10 @@ fn long_job() -> [u8; 3079] {
     job
 }
 
-fn run_twice(before: Tally, job: &[u8], rows: &mut [u32]) -> Tally {
-    let fresh = ready(rows);
-    let outcome = run_job(rows, fresh, job);
-    let answer = outcome.answer;
+fn run_twice(before: Tally, job: &[u8], rows: &mut Board) -> Tally {
+    let answer = reset_and_run(rows, job);
     let first = job_line(before, b"512 entries", answer, Must(0, 512, 5454), true);
-    let later = ready(rows);
-    let again = run_job(rows, later, job);
-    let second = again.answer;
+    let second = reset_and_run(rows, job);
     job_line(first, b"512 entries, again", second, Must(0, 512, 0), true)
 }
 

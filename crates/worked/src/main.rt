@@ -12,12 +12,13 @@ mod print;
 mod read_lines;
 mod samples;
 mod single_bits;
-mod tally;
 mod vote_places;
 mod votes;
 mod worked_rows;
 mod write_lines;
 mod writes;
+
+use screen::tally;
 
 fn main() {
     print::text(

@@ -3,9 +3,9 @@
 use crate::print;
 use crate::samples::SAMPLES;
 use crate::samples::Sample;
-use crate::tally;
-use crate::tally::Tally;
 use row::writing::write_ecc;
+use screen::tally;
+use screen::tally::Tally;
 
 // The one of a sample's two rows that has the bit: it is in just one of them.
 fn row_with(sample: Sample, bit: u32) -> u32 {

@@ -1,10 +1,10 @@
 // Votes over gathered rows (document 01, "Votes"): two of three, three of eight, and how many of
 // the eight rows are counted.
 use crate::print;
-use crate::tally;
-use crate::tally::Tally;
 use row::voting::threshold;
 use row::voting::vote;
+use screen::tally;
+use screen::tally::Tally;
 
 const FULL: u32 = 0xffffff;
 
@@ -13,10 +13,10 @@ const LAST_THREE: [u32; 8] = [0, 0, 0, 0, 0, FULL, FULL, FULL];
 const ALL: [u32; 8] = [FULL, FULL, FULL, FULL, FULL, FULL, FULL, FULL];
 
 fn vote_line(before: Tally, what: &[u8], must: u32, is: u32) -> Tally {
-    print::column(what, 50);
-    print::row(must);
+    print::left(what, 50);
+    print::bits(must);
     print::text(b"  ");
-    print::row(is);
+    print::bits(is);
     print::verdict(is == must);
     tally::compared(before, is == must)
 }
@@ -38,11 +38,11 @@ fn of_all(before: Tally, what: &[u8], count: u32, least: u32, must: u32) -> Tall
 }
 
 fn threshold_line(before: Tally, what: &[u8], must: u32, is: u32) -> Tally {
-    print::column(what, 50);
+    print::left(what, 50);
     print::number(must);
-    print::column(b"", 9);
+    print::left(b"", 9);
     print::number(is);
-    print::column(b"", 7);
+    print::left(b"", 7);
     print::verdict(is == must);
     tally::compared(before, is == must)
 }

@@ -5,23 +5,23 @@ use crate::read_lines::clean;
 use crate::read_lines::read_line;
 use crate::read_lines::refused;
 use crate::read_lines::repaired;
-use crate::tally;
-use crate::tally::Tally;
 use crate::write_lines::burnt;
 use crate::write_lines::ecc_line;
 use crate::write_lines::kept;
 use row::coding::code;
+use screen::tally;
+use screen::tally::Tally;
 
 fn code_line(before: Tally, label: &[u8], value: u16, must: u32) -> Tally {
     let is = code(value);
-    print::column(label, 10);
+    print::left(label, 10);
     print::text(b"code of ");
     print::value(value as u32);
-    print::column(b"", 14);
-    print::row(must);
-    print::column(b"", 20);
-    print::row(is);
-    print::column(b"", 20);
+    print::left(b"", 14);
+    print::bits(must);
+    print::left(b"", 20);
+    print::bits(is);
+    print::left(b"", 20);
     print::verdict(is == must);
     tally::compared(before, is == must)
 }

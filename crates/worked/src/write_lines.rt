@@ -1,10 +1,10 @@
 // What a write must leave, whether what it left is that, and the line that says so.
 use crate::print;
-use crate::tally;
-use crate::tally::Tally;
 use row::writing::Written;
 use row::writing::write_ecc;
 use row::writing::write_raw;
+use screen::tally;
+use screen::tally::Tally;
 
 // A row that must be burnt, with the bits newly set.
 pub fn burnt(row: u32, pulses: u32) -> Written {
@@ -31,15 +31,15 @@ fn same(a: Written, b: Written) -> bool {
 fn written_column(written: Written) {
     print::number(written.number);
     print::text(b", ");
-    print::row(written.row);
+    print::bits(written.row);
     print::text(b", pulses ");
-    print::two_wide(written.pulses);
+    print::right(written.pulses, 2);
     print::text(b"      ");
 }
 
 fn over_column(old: u32) {
     print::text(b" over ");
-    print::row(old);
+    print::bits(old);
     print::text(b"  ");
 }
 
@@ -53,7 +53,7 @@ fn verdict_columns(before: Tally, must: Written, is: Written) -> Tally {
 
 // One ECC write on a line of its own.
 pub fn ecc_line(before: Tally, label: &[u8], value: u16, old: u32, must: Written) -> Tally {
-    print::column(label, 10);
+    print::left(label, 10);
     print::text(b"write ");
     print::value(value as u32);
     over_column(old);
@@ -62,9 +62,9 @@ pub fn ecc_line(before: Tally, label: &[u8], value: u16, old: u32, must: Written
 
 // One raw write on a line of its own.
 pub fn raw_line(before: Tally, label: &[u8], value: u32, old: u32, must: Written) -> Tally {
-    print::column(label, 10);
+    print::left(label, 10);
     print::text(b"raw ");
-    print::row(value);
+    print::bits(value);
     over_column(old);
     verdict_columns(before, must, write_raw(old, value))
 }
