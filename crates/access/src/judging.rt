@@ -11,13 +11,14 @@ use chip::state::State;
 pub fn row_number(rows: &[u32], state: State, may: bool, row: u32) -> u32
     ensures { λ r. ⌜ r ≡ firstOf (spec.rowRungs (now (rows .entry)) state may row) ⌝ }
 {
+    let held = row_at(rows, row);
     if hidden(state, row) {
         return 6;
     }
     if !may {
         return 7;
     }
-    if 16777215 < row_at(rows, row) {
+    if 16777215 < held {
         return 3;
     }
     0

@@ -61,10 +61,10 @@ fn permit_for(row: u32, before: Permit, state: State) -> Permit
 fn entry_number(rows: &[u32], may: bool, entry: Entry) -> u32
     ensures { λ r. ⌜ r ≡ firstOf (spec.entryRungs (now (rows .entry)) may 0 entry) ⌝ }
 {
+    let old = row_at(rows, entry.row);
     if !may {
         return 7;
     }
-    let old = row_at(rows, entry.row);
     if 16777215 < old {
         return 3;
     }

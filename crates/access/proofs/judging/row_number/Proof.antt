@@ -6,6 +6,9 @@ use Rattle.access.specs.Judging.{rowRungs}
 use Rattle.access.proofs.judging.row_number.Statement.{statement}
 use Rattle.access.proofs.judging.row_number.Tie as tie
 
+row-at-requires : tie.Need-row-at-requires
+row-at-requires c κs = search needs
+
 hidden-requires : tie.Need-hidden-requires
 hidden-requires c κs = search needs
 
@@ -15,33 +18,16 @@ returns c = rw (← c .before .hidden .ensures, c .if1 .taken)
 
 returns-2 : tie.Need-returns-2
 unfolding rowRungs
-returns-2 c = rw (← c .before .before .hidden .ensures, c .before .if1 .left, not-true (c .before .before .before .before .args .may) (c .if2 .taken))
-
-row-at-requires : tie.Need-row-at-requires
-row-at-requires c κs = search needs
+returns-2 c = rw (← c .before .before .hidden .ensures, c .before .if1 .left, not-true (c .before .before .before .before .before .args .may) (c .if2 .taken))
 
 returns-3 : tie.Need-returns-3
 unfolding rowRungs
-returns-3 c =
-    rw (
-      ← c .before .before .before .before .hidden .ensures,
-      c .before .before .before .if1 .left,
-      not-false (c .before .before .before .before .before .before .args .may) (c .before .before .if2 .left),
-      ← c .before .row-at .ensures,
-      lt-ltb _ _ (c .if3 .taken),
-    )
+returns-3 c = rw (← c .before .before .before .hidden .ensures, c .before .before .if1 .left, not-false (c .before .before .before .before .before .before .args .may) (c .before .if2 .left), ← c .before .before .before .before .row-at .ensures, lt-ltb _ _ (c .if3 .taken))
 
 returns-4 : tie.Need-returns-4
 unfolding rowRungs
-returns-4 c =
-    rw (
-      ← c .before .before .before .before .hidden .ensures,
-      c .before .before .before .if1 .left,
-      not-false (c .before .before .before .before .before .before .args .may) (c .before .before .if2 .left),
-      ← c .before .row-at .ensures,
-      le-ltb _ _ (c .if3 .left),
-    )
+returns-4 c = rw (← c .before .before .before .hidden .ensures, c .before .before .if1 .left, not-false (c .before .before .before .before .before .before .args .may) (c .before .if2 .left), ← c .before .before .before .before .row-at .ensures, le-ltb _ _ (c .if3 .left))
 
 pub row-number-spec : {M : Type 1} → statement M
 row-number-spec =
-    tie.close (tie.spec hidden-requires returns returns-2 row-at-requires returns-3 returns-4)
+    tie.close (tie.spec row-at-requires hidden-requires returns returns-2 returns-3 returns-4)
