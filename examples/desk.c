@@ -12,40 +12,10 @@
 #include <stdio.h>
 #include <string.h>
 
-/* The layout that libotp.a goes by. A compiler that lays the structs out otherwise stops here. */
-#define SIZE(type, bytes) _Static_assert(sizeof(type) == (bytes), "size of " #type)
-#define AT(type, field, byte) _Static_assert(offsetof(type, field) == (byte), "place of " #field " in " #type)
-
-SIZE(otp_answer, 24);
-AT(otp_answer, number, 0);
-AT(otp_answer, value, 4);
-AT(otp_answer, condition, 8);
-AT(otp_answer, bit, 12);
-AT(otp_answer, place, 16);
-AT(otp_answer, pulses, 20);
-
-SIZE(otp_key, 18);
-AT(otp_key, words, 0);
-AT(otp_key, valid, 16);
-AT(otp_key, whole, 17);
-
-SIZE(otp_state, 444);
-AT(otp_state, secure, 0);
-AT(otp_state, nonsecure, 64);
-AT(otp_state, writekey, 128);
-AT(otp_state, readkey, 192);
-AT(otp_state, nokey, 256);
-AT(otp_state, keys, 320);
-AT(otp_state, entered, 428);
-
-SIZE(otp_outcome, 468);
-AT(otp_outcome, answer, 0);
-AT(otp_outcome, state, 24);
-
-enum { ROWS = 4096, SECURE = 0, NONSECURE = 1, ROW = 0x0c0, PAGE = ROW / 64, WIDTH = 320 };
+enum { ROW = 0x0c0, PAGE = ROW / OTP_PAGE_ROWS, WIDTH = 320 };
 
 /* The image of a chip. A desk would fill it from the chip itself. */
-static uint32_t rows[ROWS];
+static uint32_t rows[OTP_ROWS];
 
 /* How many things were not as they must be. */
 static int wrong;
@@ -62,33 +32,33 @@ static void expect(const char *what, uint32_t is, uint32_t must)
 static otp_state blank_chip(void)
 {
     memset(rows, 0, sizeof rows);
-    otp_state start = {0};
-    otp_outcome out = otp_reset(rows, ROWS, start);
+    otp_state start = OTP_START;
+    otp_outcome out = otp_reset(rows, OTP_ROWS, start);
     printf("reset of a blank chip: number %u\n", (unsigned)out.answer.number);
-    expect("the number of the reset", out.answer.number, 0);
+    expect("the number of the reset", out.answer.number, OTP_DONE);
     return out.state;
 }
 
 /* A write answers with the pulses that it spent, and with the state to go on with. */
 static otp_state write_width(otp_state state)
 {
-    otp_outcome out = otp_write_ecc(rows, ROWS, state, SECURE, ROW, WIDTH);
+    otp_outcome out = otp_write_ecc(rows, OTP_ROWS, state, OTP_SECURE, ROW, WIDTH);
     printf("width %d written to row 0x%03x: number %u, %u pulses, the row is 0x%06x\n", WIDTH, ROW,
            (unsigned)out.answer.number, (unsigned)out.answer.pulses, (unsigned)rows[ROW]);
-    expect("the number of the write", out.answer.number, 0);
+    expect("the number of the write", out.answer.number, OTP_DONE);
     return out.state;
 }
 
 /* The desk reads as Non-secure. Where a bit had to be repaired, the answer says which. */
 static void read_width(otp_state state, uint32_t condition, uint32_t bit)
 {
-    otp_answer got = otp_read_ecc(rows, ROWS, state, NONSECURE, ROW);
+    otp_answer got = otp_read_ecc(rows, OTP_ROWS, state, OTP_NONSECURE, ROW);
     printf("width read from 0x%06x: number %u, value %u, ", (unsigned)rows[ROW], (unsigned)got.number, (unsigned)got.value);
-    if (got.condition == 0)
+    if (got.condition == OTP_CLEAN)
         printf("clean\n");
     else
         printf("repaired bit %u\n", (unsigned)got.bit);
-    expect("the number of the read", got.number, 0);
+    expect("the number of the read", got.number, OTP_DONE);
     expect("the width", got.value, WIDTH);
     expect("the condition", got.condition, condition);
     expect("the repaired bit", got.bit, bit);
@@ -97,11 +67,11 @@ static void read_width(otp_state state, uint32_t condition, uint32_t bit)
 /* Locks the page against writing until the next reset. */
 static otp_state lock_page(otp_state state)
 {
-    otp_outcome out = otp_advance(state, SECURE, SECURE, PAGE, 1);
-    otp_answer level = otp_show(out.state, NONSECURE, SECURE, PAGE);
+    otp_outcome out = otp_advance(state, OTP_SECURE, OTP_SECURE, PAGE, OTP_READ_ONLY);
+    otp_answer level = otp_show(out.state, OTP_NONSECURE, OTP_SECURE, PAGE);
     printf("page %d locked: number %u, it shows level %u\n", PAGE, (unsigned)out.answer.number, (unsigned)level.value);
-    expect("the number of the advance", out.answer.number, 0);
-    expect("the level of the page", level.value, 1);
+    expect("the number of the advance", out.answer.number, OTP_DONE);
+    expect("the level of the page", level.value, OTP_READ_ONLY);
     return out.state;
 }
 
@@ -109,9 +79,9 @@ static otp_state lock_page(otp_state state)
 static void refused_write(otp_state state)
 {
     uint32_t before = rows[ROW];
-    otp_outcome out = otp_write_ecc(rows, ROWS, state, SECURE, ROW, WIDTH);
+    otp_outcome out = otp_write_ecc(rows, OTP_ROWS, state, OTP_SECURE, ROW, WIDTH);
     printf("width written again: refused with number %u, the row is 0x%06x still\n", (unsigned)out.answer.number, (unsigned)rows[ROW]);
-    expect("the number of the refused write", out.answer.number, 7);
+    expect("the number of the refused write", out.answer.number, OTP_REFUSED_LOCK);
     expect("the row after the refusal", rows[ROW], before);
 }
 
@@ -119,10 +89,10 @@ static void refused_write(otp_state state)
 static void keep_a_width(void)
 {
     otp_state state = write_width(blank_chip());
-    read_width(state, 0, 0);
+    read_width(state, OTP_CLEAN, 0);
     rows[ROW] &= ~(UINT32_C(1) << 8);
     printf("bit 8 wears away\n");
-    read_width(state, 1, 8);
+    read_width(state, OTP_REPAIRED, 8);
     refused_write(lock_page(state));
 }
 
@@ -134,7 +104,7 @@ static void job_came_to(const char *what, otp_answer is, uint32_t place, uint32_
 {
     printf("%s: number %u, place %u, %u pulses, the row is 0x%06x\n", what, (unsigned)is.number, (unsigned)is.place,
            (unsigned)is.pulses, (unsigned)rows[ROW]);
-    expect("the number of the job", is.number, 0);
+    expect("the number of the job", is.number, OTP_DONE);
     expect("the place", is.place, place);
     expect("the pulses", is.pulses, pulses);
     expect("the row", rows[ROW], row);
@@ -144,10 +114,10 @@ static void job_came_to(const char *what, otp_answer is, uint32_t place, uint32_
 static void run_a_job(void)
 {
     otp_state state = blank_chip();
-    otp_outcome cut = otp_rehearse(rows, ROWS, state, job, sizeof job, 2);
+    otp_outcome cut = otp_rehearse(rows, OTP_ROWS, state, job, sizeof job, 2);
     job_came_to("job rehearsed to 2 pulses", cut.answer, 0, 2, 0x010001);
-    otp_outcome again = otp_reset(rows, ROWS, cut.state);
-    otp_outcome whole = otp_run_job(rows, ROWS, again.state, job, sizeof job);
+    otp_outcome again = otp_reset(rows, OTP_ROWS, cut.state);
+    otp_outcome whole = otp_run_job(rows, OTP_ROWS, again.state, job, sizeof job);
     job_came_to("reset, and the job run", whole.answer, 1, 2, 0x230001);
 }
 

@@ -3,23 +3,27 @@
  *
  * A chip has 4,096 rows of 24 bits, and a burnt bit never clears. This library says what a row reads as, what a write leaves in it,
  * who may do either, and what a job burns. It works on an image of the rows and touches no hardware. It keeps nothing between calls,
- * takes no memory but the stack, and needs memcpy of the C library and nothing else.
+ * takes no memory but the stack, and needs memcpy and memset of the C library and nothing else.
  *
  * Each call is proved: for every input it answers exactly what its definition says, and it ends. The definitions follow document 01,
- * "Full scope and exact rules". The proof does not cover this header: examples/desk.c checks its layout, and calls the library by it.
+ * "Full scope and exact rules". The proof does not cover this header. It asserts the layout of each struct at compile time, and
+ * examples/desk.c calls the library by it. It is C11 and C++17.
  *
  *     rt staticlib otp                                          makes target/staticlib/libotp.a, for x86-64 Linux
  *     cc -Iinclude desk.c target/staticlib/libotp.a -o desk     compiles and links a program
+ *     desk/build                                                makes libotp.a for the RP2350's own cores: see desk/README.md
  *
  *
  * What goes in
  *
  * rows      The rows, row 0 first, lent for the call: 4,096 numbers, each at most 0xffffff. A length is a count of elements, not of
- *           bytes. A call that takes them as const only reads them. A write, a job or a rehearsal burns them in place.
- * state     What the hardware latches at reset, by value. A state of all zeros is the one to start from: `otp_state state = {0};`,
- *           then otp_reset. It locks no page and holds no key, so call nothing else before that reset is done. A call that can
- *           change the state gives it back: keep that one. Any contents are allowed, if each bool is 0 or 1.
- * caller    0 is Secure, 1 is Non-secure.
+ *           bytes, and has 64 bits on every machine. A call that takes the rows as const only reads them. A write, a job or a
+ *           rehearsal burns them in place.
+ * state     What the hardware latches at reset, by value. Begin with one of all zeros, `otp_state state = OTP_START;`, and otp_reset.
+ *           It locks no page and holds no key, so call nothing else before that reset is done. A call that can change the state
+ *           gives it back: keep that one. A write, a job or a rehearsal gives it back as it came, since what is burnt has no effect
+ *           before the next reset. Any contents are allowed, if each bool is 0 or 1.
+ * caller    OTP_SECURE or OTP_NONSECURE.
  *
  * A number that is too large is refused, and so is a length that is wrong. What no call can see is left to the caller: a pointer is
  * never NULL, also where the length is 0, it points to as many elements as the length says, and the rows and the bytes of a job or a
@@ -28,20 +32,7 @@
  *
  * The numbers that come out
  *
- *      0   done
- *      1   there are not 4,096 rows
- *      2   the row is above 4,095, or the vote group runs past row 4,095
- *      3   an entry of the rows that this call uses is above 16,777,215
- *      4   caller above 1, page above 63, level above 2, domain above 1, vote count neither 3 nor 8, key not 16 bytes,
- *          ECC value above 65,535, or raw value above 16,777,215
- *      5   ECC on a row from 0xf80 up, or a vote group with any such row
- *      6   a row of a latched valid key
- *      7   the locks and keys do not allow it
- *      8   ECC read: no value has a code within one bit
- *      9   ECC write: neither polarity fits over the bits already set
- *     10   the job's bytes are malformed
- *     11   a job's row is from 0xf40 up, or not above the row before it
- *
+ * Each answer has a number: OTP_DONE, or one of the refusals 1 to 11 that are listed below.
  * Where several apply, the first in this order is given: 1, 4, 2, 5, 6, 7, 3, 8, 9. A job has its own order, given at otp_run_job.
  *
  * Any number but 0 is a refusal, and a refusal changes nothing: every row and the state are as they were. Its value, condition, bit
@@ -54,15 +45,58 @@
 #include <stddef.h>
 #include <stdint.h>
 
+/* What C and C++ say in different words. OTP_START is the initialiser of a state of all zeros. */
 #ifdef __cplusplus
+#define OTP_ASSERT(what, why) static_assert(what, why)
+#define OTP_ALIGNAS(bytes) alignas(bytes)
+#define OTP_ALIGNOF(type) alignof(type)
+#define OTP_START {}
 extern "C" {
+#else
+#define OTP_ASSERT(what, why) _Static_assert(what, why)
+#define OTP_ALIGNAS(bytes) _Alignas(bytes)
+#define OTP_ALIGNOF(type) _Alignof(type)
+#define OTP_START {0}
 #endif
+
+enum {
+    OTP_ROWS = 4096,    /* the rows of a chip, and the only length of rows that is not refused */
+    OTP_PAGES = 64,     /* its pages, each with a lock */
+    OTP_PAGE_ROWS = 64, /* the rows of a page */
+    OTP_KEY_BYTES = 16  /* the bytes of a key */
+};
+
+/* Callers, and the domains of a lock. */
+enum { OTP_SECURE = 0, OTP_NONSECURE = 1 };
+
+/* Levels of a lock. */
+enum { OTP_READ_WRITE = 0, OTP_READ_ONLY = 1, OTP_NO_ACCESS = 2 };
+
+/* Conditions of an ECC read. */
+enum { OTP_CLEAN = 0, OTP_REPAIRED = 1 };
+
+/* Numbers. */
+enum {
+    OTP_DONE = 0,             /* done */
+    OTP_REFUSED_LENGTH = 1,   /* there are not 4,096 rows */
+    OTP_REFUSED_ROW = 2,      /* the row is above 4,095, or the vote group runs past row 4,095 */
+    OTP_REFUSED_ENTRY = 3,    /* an entry of the rows that this call uses is above 16,777,215 */
+    OTP_REFUSED_ARGUMENT = 4, /* caller above 1, page above 63, level above 2, domain above 1, vote count neither 3 nor 8, key not
+                                 16 bytes, ECC value above 65,535, or raw value above 16,777,215 */
+    OTP_REFUSED_ECC = 5,      /* ECC on a row from 0xf80 up, or a vote group with any such row */
+    OTP_REFUSED_KEY = 6,      /* a row of a latched valid key */
+    OTP_REFUSED_LOCK = 7,     /* the locks and keys do not allow it */
+    OTP_REFUSED_CODE = 8,     /* ECC read: no value has a code within one bit */
+    OTP_REFUSED_FIT = 9,      /* ECC write: neither polarity fits over the bits already set */
+    OTP_REFUSED_JOB = 10,     /* the job's bytes are malformed */
+    OTP_REFUSED_ORDER = 11    /* a job's row is from 0xf40 up, or not above the row before it */
+};
 
 /* What every call answers. A field that a call has no use for is 0. */
 typedef struct {
-    uint32_t number;    /* 0 is done, any other is a refusal: see above */
+    uint32_t number;    /* OTP_DONE, any other is a refusal */
     uint32_t value;     /* what a read or a vote found, or the level that a show shows */
-    uint32_t condition; /* of an ECC read: 0 clean, 1 repaired, which is a row with one worn or stray bit */
+    uint32_t condition; /* of an ECC read: OTP_CLEAN, or OTP_REPAIRED, which is a row with one worn or stray bit */
     uint32_t bit;       /* the repaired bit, 0 to 21, as it is numbered in the row; 0 where clean */
     uint32_t place;     /* of a job: entries are counted from 0. Done, how many leading entries stand whole; refused with 7, 3 or 9,
                            the entry that is refused */
@@ -76,15 +110,17 @@ typedef struct {
     bool whole;        /* all eight rows decoded: without it the key matches nothing */
 } otp_key;
 
-/* What the hardware latches at reset, for each page of 64 rows, and the key that was entered since. */
+/* What the hardware latches at reset, for each page of 64 rows, and the key that was entered since. It is aligned so that it is copied
+   by words. */
 typedef struct {
-    uint8_t secure[64];    /* the lock level for Secure: 0 read and write, 1 read only, 2 no access; above 2 counts as 2 */
-    uint8_t nonsecure[64]; /* the lock level for Non-secure */
-    uint8_t writekey[64];  /* the key that opens the page for writing: 0 none, 1 to 6 a key, 7 never matches; above 7 counts as 7 */
-    uint8_t readkey[64];   /* the key that opens the page for reading only, numbered as those for writing */
-    bool nokey[64];        /* where a key is registered and none matches: false is read only, true is no access */
-    otp_key keys[6];       /* the keys */
-    uint16_t entered[8];   /* the entered key; all zeros means that none is entered */
+    OTP_ALIGNAS(4)
+    uint8_t secure[OTP_PAGES];    /* the lock level for Secure; above OTP_NO_ACCESS counts as that */
+    uint8_t nonsecure[OTP_PAGES]; /* the lock level for Non-secure */
+    uint8_t writekey[OTP_PAGES];  /* the key that opens the page for writing: 0 none, 1 to 6 a key, 7 never matches; above 7 counts as 7 */
+    uint8_t readkey[OTP_PAGES];   /* the key that opens the page for reading only, numbered as those for writing */
+    bool nokey[OTP_PAGES];        /* where a key is registered and none matches: false is read only, true is no access */
+    otp_key keys[6];              /* the keys */
+    uint16_t entered[8];          /* the entered key; all zeros means that none is entered */
 } otp_state;
 
 /* What a call that can change the state answers: the answer, and the state to go on with. */
@@ -93,29 +129,74 @@ typedef struct {
     otp_state state;
 } otp_outcome;
 
+/* The layout that libotp.a goes by: each field begins where the one before it ends, and the last ends the struct. A compiler that lays
+   a struct out otherwise stops here. */
+#define OTP_END(type, field) (offsetof(type, field) + sizeof(((type *)0)->field))
+#define OTP_FIRST(type, field) OTP_ASSERT(offsetof(type, field) == 0, #field " is not first in " #type)
+#define OTP_NEXT(type, field, next) OTP_ASSERT(offsetof(type, next) == OTP_END(type, field), #next " is out of place in " #type)
+#define OTP_LAST(type, field) OTP_ASSERT(sizeof(type) == OTP_END(type, field), #type " has not its size")
+
+OTP_ASSERT(sizeof(bool) == 1, "a bool is not a byte");
+
+OTP_FIRST(otp_answer, number);
+OTP_NEXT(otp_answer, number, value);
+OTP_NEXT(otp_answer, value, condition);
+OTP_NEXT(otp_answer, condition, bit);
+OTP_NEXT(otp_answer, bit, place);
+OTP_NEXT(otp_answer, place, pulses);
+OTP_LAST(otp_answer, pulses);
+
+OTP_FIRST(otp_key, words);
+OTP_NEXT(otp_key, words, valid);
+OTP_NEXT(otp_key, valid, whole);
+OTP_LAST(otp_key, whole);
+
+OTP_FIRST(otp_state, secure);
+OTP_NEXT(otp_state, secure, nonsecure);
+OTP_NEXT(otp_state, nonsecure, writekey);
+OTP_NEXT(otp_state, writekey, readkey);
+OTP_NEXT(otp_state, readkey, nokey);
+OTP_NEXT(otp_state, nokey, keys);
+OTP_NEXT(otp_state, keys, entered);
+OTP_LAST(otp_state, entered);
+OTP_ASSERT(OTP_ALIGNOF(otp_state) == 4, "otp_state is not aligned to words");
+
+OTP_FIRST(otp_outcome, answer);
+OTP_NEXT(otp_outcome, answer, state);
+OTP_LAST(otp_outcome, state);
+
+#undef OTP_LAST
+#undef OTP_NEXT
+#undef OTP_FIRST
+#undef OTP_END
+#undef OTP_ALIGNOF
+#undef OTP_ALIGNAS
+#undef OTP_ASSERT
+
 /* Resets the chip: latches locks and keys from the rows, and forgets the entered key and the locks advanced since the last reset.
-   A burnt lock or key has no effect before this. Numbers 0, 1, 3. */
-otp_outcome otp_reset(const uint32_t *rows, size_t rows_len, otp_state state);
+   A burnt lock or key has no effect before this. It takes a state because a reset that is refused gives it back as it came; one that is
+   done goes by the rows alone. Numbers 0, 1, 3. */
+otp_outcome otp_reset(const uint32_t *rows, uint64_t rows_len, otp_state state);
 
 /* Reads the 24 bits of a row as they are. Numbers 0, 1, 4, 2, 6, 7, 3. */
-otp_answer  otp_read_raw(const uint32_t *rows, size_t rows_len, otp_state state, uint32_t caller, uint32_t row);
+otp_answer  otp_read_raw(const uint32_t *rows, uint64_t rows_len, otp_state state, uint32_t caller, uint32_t row);
 
 /* Reads the 16 bits of a row with ECC. One wrong bit among bits 21:0 is repaired in the answer, and the condition and bit say which;
    the row itself is left. Numbers 0, 1, 4, 2, 5, 6, 7, 3, 8. */
-otp_answer  otp_read_ecc(const uint32_t *rows, size_t rows_len, otp_state state, uint32_t caller, uint32_t row);
+otp_answer  otp_read_ecc(const uint32_t *rows, uint64_t rows_len, otp_state state, uint32_t caller, uint32_t row);
 
 /* Reads the vote of 3 or 8 rows, the first of them `row`. A bit is set if at least two of three rows have it, or three of eight.
    Numbers 0, 1, 4, 2, 5, 6, 7, 3; the first row from below that meets 6, 7 or 3 answers. */
-otp_answer  otp_read_vote(const uint32_t *rows, size_t rows_len, otp_state state, uint32_t caller, uint32_t row, uint32_t count);
+otp_answer  otp_read_vote(const uint32_t *rows, uint64_t rows_len, otp_state state, uint32_t caller, uint32_t row, uint32_t count);
 
 /* Burns the bits of a value of 24 bits into a row; bits already set stay. Numbers 0, 1, 4, 2, 6, 7, 3. */
-otp_outcome otp_write_raw(uint32_t *rows, size_t rows_len, otp_state state, uint32_t caller, uint32_t row, uint32_t value);
+otp_outcome otp_write_raw(uint32_t *rows, uint64_t rows_len, otp_state state, uint32_t caller, uint32_t row, uint32_t value);
 
 /* Burns a value of 16 bits with its code into a row: plain if the bits already set allow it, otherwise inverted.
    Numbers 0, 1, 4, 2, 5, 6, 7, 3, 9. */
-otp_outcome otp_write_ecc(uint32_t *rows, size_t rows_len, otp_state state, uint32_t caller, uint32_t row, uint32_t value);
+otp_outcome otp_write_ecc(uint32_t *rows, uint64_t rows_len, otp_state state, uint32_t caller, uint32_t row, uint32_t value);
 
-/* Advances the lock of a page in a domain, 0 Secure or 1 Non-secure, to a level, until the next reset. An equal or lower level is
+/* Advances the lock of a page in a domain, OTP_SECURE or OTP_NONSECURE, to a level, until the next reset. An equal or lower level is
    done and changes nothing. Secure may advance both domains, Non-secure only its own. Numbers 0, 4, 7. */
 otp_outcome otp_advance(otp_state state, uint32_t caller, uint32_t domain, uint32_t page, uint32_t level);
 
@@ -124,17 +205,17 @@ otp_answer  otp_show(otp_state state, uint32_t caller, uint32_t domain, uint32_t
 
 /* Enters a key of 16 bytes, low byte first, in place of any entered before. Only Secure may. That it is done does not say that it
    matches a key. 16 zeros mean that none is entered. Numbers 0, 4, 7. */
-otp_outcome otp_enter_key(otp_state state, uint32_t caller, const uint8_t *key, size_t key_len);
+otp_outcome otp_enter_key(otp_state state, uint32_t caller, const uint8_t *key, uint64_t key_len);
 
 /* Runs a job as Secure. All of it is judged before the first bit is burnt, so a job is burnt whole or not at all.
    Its bytes, low byte first in each number: 4F 54 4A, a 16-bit version, which is 1, a 16-bit count of 0 to 512, then as many entries
    of six bytes, a 16-bit row, a kind (0 ECC, 1 raw) and a 24-bit value. Rows ascend and stay below 0xf40.
    Numbers 0, 1, 10, 11, then entry by entry 7, 3, 9. */
-otp_outcome otp_run_job(uint32_t *rows, size_t rows_len, otp_state state, const uint8_t *job, size_t job_len);
+otp_outcome otp_run_job(uint32_t *rows, uint64_t rows_len, otp_state state, const uint8_t *job, uint64_t job_len);
 
 /* Rehearses a job: judged and burnt like otp_run_job, it stops after `limit` pulses, as if the power went there, and answers 0. Bits
    of a row are burnt upward. It burns the rows that it is lent: lend it a copy to keep them. Numbers as of otp_run_job. */
-otp_outcome otp_rehearse(uint32_t *rows, size_t rows_len, otp_state state, const uint8_t *job, size_t job_len, uint32_t limit);
+otp_outcome otp_rehearse(uint32_t *rows, uint64_t rows_len, otp_state state, const uint8_t *job, uint64_t job_len, uint32_t limit);
 
 #ifdef __cplusplus
 }

@@ -1,0 +1,270 @@
+/* Calls made by chance on libotp.a, so that two builds of it can be compared: one source, one seed, the same lines on every machine.
+
+   Sequences of calls on one chip, with the state carried on: rows, keys and locks are burnt by the calls themselves, and now and then an
+   entry, a state or an argument is put in that no chip would have. A checksum goes on over every answer, state and row. It is printed
+   every EVERY calls, so two outputs part within as many calls of where the builds do. At the end comes how often each call gave each
+   number; a number that a call can give and never gave is an error. Compile with -DEVERY=1 to see the very call. */
+#include "chance.h"
+#include "otp.h"
+
+#include <stdio.h>
+#include <string.h>
+
+#ifndef CALLS
+#define CALLS 100000
+#endif
+#ifndef EVERY
+#define EVERY 1000
+#endif
+
+enum { RESET, READ_RAW, READ_ECC, READ_VOTE, WRITE_RAW, WRITE_ECC, ADVANCE, SHOW, ENTER_KEY, RUN_JOB, REHEARSE, KINDS, NUMBERS = 12 };
+
+/* Entries past the rows, which no call may change. */
+enum { PAST = 8 };
+
+/* Each kind of call, and the numbers that it can give: digits in base 16, in the header's order. */
+static const struct {
+    const char *name, *numbers;
+} kinds[KINDS] = {
+    {"reset", "013"},
+    {"read raw", "0142673"},
+    {"read ECC", "014256738"},
+    {"read vote", "01425673"},
+    {"write raw", "0142673"},
+    {"write ECC", "014256739"},
+    {"advance", "047"},
+    {"show", "04"},
+    {"enter key", "047"},
+    {"run job", "01ab739"},
+    {"rehearse", "01ab739"},
+};
+
+/* The chip: its rows and a few entries past them, its state, and the last answer. */
+static uint32_t rows[OTP_ROWS + PAST];
+static otp_state state;
+static otp_answer answer;
+
+static uint8_t key[OTP_KEY_BYTES];
+static uint32_t tally[KINDS][NUMBERS], made, checksum = 2166136261u;
+
+/* The checksum, taken on by a number or by the bytes of a struct, which have no gaps. */
+static void sum(uint32_t number)
+{
+    checksum = (checksum ^ number) * 16777619u;
+    checksum ^= checksum >> 15;
+}
+
+static void sum_bytes(const void *bytes, size_t size)
+{
+    for (size_t i = 0; i < size; i++)
+        sum(((const uint8_t *)bytes)[i]);
+}
+
+static void sum_rows(void)
+{
+    for (uint32_t row = 0; row < OTP_ROWS + PAST; row++)
+        sum(rows[row]);
+}
+
+/* Takes on all that a call left. */
+static void took(uint32_t kind)
+{
+    sum(kind);
+    sum_bytes(&answer, sizeof answer);
+    sum_bytes(&state, sizeof state);
+    sum_rows();
+    tally[kind][answer.number % NUMBERS]++;
+    if (++made % EVERY == 0)
+        printf("%6u calls, checksum %08x\n", (unsigned)made, (unsigned)checksum);
+}
+
+static void keep(uint32_t kind, otp_outcome outcome)
+{
+    answer = outcome.answer;
+    state = outcome.state;
+    took(kind);
+}
+
+static void keep_answer(uint32_t kind, otp_answer given)
+{
+    answer = given;
+    took(kind);
+}
+
+/* Enters the key that is burnt, or one like it. */
+static void enter_some_key(void)
+{
+    uint8_t given[OTP_KEY_BYTES + 1] = {0};
+    uint32_t caller = some_caller(), bytes = once_in(8) ? EDGE(0, 15, 17) : OTP_KEY_BYTES;
+    memcpy(given, key, OTP_KEY_BYTES);
+    if (once_in(4))
+        flip(given, OTP_KEY_BYTES);
+    keep(ENTER_KEY, otp_enter_key(state, caller, given, bytes));
+}
+
+static void some_read(void)
+{
+    uint32_t caller = some_caller(), row = some_row();
+    uint64_t length = some_length();
+    switch (below(3)) {
+    case 0:
+        keep_answer(READ_RAW, otp_read_raw(rows, length, state, caller, row));
+        break;
+    case 1:
+        keep_answer(READ_ECC, otp_read_ecc(rows, length, state, caller, row));
+        break;
+    default:
+        keep_answer(READ_VOTE, otp_read_vote(rows, length, state, caller, row, once_in(8) ? EDGE(0, 2, 4, 9, 0xffffffff) : EDGE(3, 8)));
+    }
+}
+
+static void some_write(void)
+{
+    uint32_t caller = some_caller(), row = some_row();
+    uint64_t length = some_length();
+    if (once_in(3))
+        keep(WRITE_RAW, otp_write_raw(rows, length, state, caller, row, some_raw()));
+    else
+        keep(WRITE_ECC, otp_write_ecc(rows, length, state, caller, row, some_value()));
+}
+
+static void some_run(void)
+{
+    uint32_t bytes = some_job();
+    uint64_t length = some_length();
+    if (once_in(2))
+        keep(RUN_JOB, otp_run_job(rows, length, state, job, bytes));
+    else
+        keep(REHEARSE, otp_rehearse(rows, length, state, job, bytes, once_in(4) ? EDGE(0, 1, 0xffffffff) : below(200)));
+}
+
+static void some_lock(void)
+{
+    uint32_t caller = some_caller(), domain = some_domain(), page = some_page();
+    if (once_in(2))
+        keep_answer(SHOW, otp_show(state, caller, domain, page));
+    else
+        keep(ADVANCE, otp_advance(state, caller, domain, page, some_level()));
+}
+
+static void some_call(void)
+{
+    switch (below(16)) {
+    case 0:
+        keep(RESET, otp_reset(rows, some_length(), state));
+        break;
+    case 1:
+        enter_some_key();
+        break;
+    case 2:
+    case 3:
+        some_lock();
+        break;
+    case 4:
+    case 5:
+        some_run();
+        break;
+    case 6:
+    case 7:
+    case 8:
+    case 9:
+        some_write();
+        break;
+    default:
+        some_read();
+    }
+}
+
+/* Burns a lock word of a page, three copies of one byte, one bit of it now and then worn away. */
+static void burn_lock(uint32_t row, uint32_t byte)
+{
+    uint32_t worn = once_in(2) ? 1u << below(24) : 0;
+    keep(WRITE_RAW, otp_write_raw(rows, OTP_ROWS, state, OTP_SECURE, row, byte * 0x010101 & ~worn));
+}
+
+static void fill(void *bytes, size_t size)
+{
+    for (size_t i = 0; i < size; i++)
+        ((uint8_t *)bytes)[i] = (uint8_t)chance();
+}
+
+/* Burns one of the six keys and its valid flag, and registers it for a page. */
+static void burn_key(void)
+{
+    uint32_t k = below(6), page = below(4), other = below(8), no_key = below(2);
+    fill(key, sizeof key);
+    for (uint32_t i = 0; i < 8; i++)
+        keep(WRITE_ECC, otp_write_ecc(rows, OTP_ROWS, state, OTP_SECURE, FIRST_KEY_ROW + 8 * k + i, key[2 * i] + 256u * key[2 * i + 1]));
+    keep(WRITE_RAW, otp_write_raw(rows, OTP_ROWS, state, OTP_SECURE, FIRST_VALID_ROW + k, 0x010101));
+    burn_lock(FIRST_LOCK_ROW + 2 * page, k + 1 + 8 * other + 64 * no_key);
+}
+
+/* Any state, but that each bool is 0 or 1. */
+static void any_state(void)
+{
+    fill(&state, sizeof state);
+    for (uint32_t page = 0; page < OTP_PAGES; page++)
+        state.nokey[page] = once_in(2);
+    for (uint32_t k = 0; k < sizeof state.keys / sizeof state.keys[0]; k++) {
+        state.keys[k].valid = once_in(2);
+        state.keys[k].whole = once_in(2);
+    }
+}
+
+/* Puts a number from `least` up into some rows that are used often. */
+static void sprinkle(uint32_t count, uint32_t least)
+{
+    for (uint32_t i = 0; i < count; i++) {
+        uint32_t row = often_used(), more = once_in(4) ? 0 : chance() & 0xffffff;
+        rows[row] = least + more;
+    }
+}
+
+/* A new chip: blank, then perhaps with a key, with locks, with worn rows, with entries that no chip has, or with any state. */
+static void new_chip(void)
+{
+    otp_state start = OTP_START;
+    uint32_t page = below(4), byte = below(256);
+    memset(rows, 0, sizeof rows);
+    state = start;
+    if (once_in(2))
+        burn_key();
+    if (once_in(2))
+        burn_lock(FIRST_LOCK_ROW + 1 + 2 * page, byte);
+    if (once_in(2))
+        sprinkle(4, 0);
+    keep(RESET, otp_reset(rows, OTP_ROWS, state));
+    if (once_in(4))
+        sprinkle(4, 0x1000000);
+    if (once_in(8))
+        any_state();
+}
+
+/* How often a call gave each number, and whether it gave all that it can. */
+static bool told(uint32_t kind)
+{
+    bool all = true;
+    printf("%-10s", kinds[kind].name);
+    for (uint32_t number = 0; number < NUMBERS; number++) {
+        bool can = strchr(kinds[kind].numbers, "0123456789ab"[number]) != NULL;
+        printf(" %5u", (unsigned)tally[kind][number]);
+        all = all && can == (tally[kind][number] != 0);
+    }
+    printf("\n");
+    return all;
+}
+
+int main(void)
+{
+    bool all = true;
+    while (made < CALLS) {
+        new_chip();
+        for (uint32_t more = 20 + below(40); more > 0; more--)
+            some_call();
+    }
+    for (uint32_t kind = 0; kind < KINDS; kind++)
+        all = told(kind) && all;
+    if (!all)
+        printf("a call never gave a number that it can give, or gave one that it cannot\n");
+    return all ? 0 : 1;
+}

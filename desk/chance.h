@@ -1,0 +1,131 @@
+/* What desk/calls.c leaves to chance: the arguments of a call, and jobs. The same on every machine. */
+#ifndef CHANCE_H
+#define CHANCE_H
+
+#include "otp.h"
+
+#include <string.h>
+
+enum { FIRST_KEPT_ROW = 0xf40, FIRST_KEY_ROW = 0xf48, FIRST_VALID_ROW = 0xf79, FIRST_LOCK_ROW = 0xf80 };
+enum { HEAD = 7, ENTRY = 6, MOST_ENTRIES = 513 };
+
+/* The job that was written last, with room for a byte too many. */
+static uint8_t job[HEAD + ENTRY * MOST_ENTRIES + 1];
+
+/* Chance, by xorshift. No expression asks for it twice, since C leaves open which comes first. */
+static uint32_t chance(void)
+{
+    static uint32_t now = 2350;
+    now ^= now << 13;
+    now ^= now >> 17;
+    now ^= now << 5;
+    return now;
+}
+
+static uint32_t below(uint32_t bound) { return chance() % bound; }
+static bool once_in(uint32_t times) { return below(times) == 0; }
+
+/* One of a few numbers that lie at an edge. */
+#define EDGE(...) edge((const uint32_t[]){__VA_ARGS__}, sizeof((const uint32_t[]){__VA_ARGS__}) / sizeof(uint32_t))
+static uint32_t edge(const uint32_t *edges, uint32_t count) { return edges[below(count)]; }
+
+/* One of the first rows of the first pages. They come back often enough to be written over and read after. */
+static uint32_t often_used(void)
+{
+    uint32_t page = below(4);
+    return OTP_PAGE_ROWS * page + below(6);
+}
+
+static uint32_t some_row(void)
+{
+    switch (below(8)) {
+    case 0:
+        return EDGE(0, FIRST_KEPT_ROW - 1, FIRST_KEPT_ROW, FIRST_KEY_ROW - 1, FIRST_KEY_ROW + 48, FIRST_LOCK_ROW - 1, FIRST_LOCK_ROW,
+                    OTP_ROWS - 8, OTP_ROWS - 1, OTP_ROWS, 0xffffffff);
+    case 1:
+        return FIRST_KEY_ROW + below(48);
+    case 2:
+        return FIRST_LOCK_ROW + below(2 * OTP_PAGES);
+    case 3:
+        return below(OTP_ROWS);
+    default:
+        return often_used();
+    }
+}
+
+/* A row's worth of bits, each set once in four times. */
+static uint32_t some_bits(void)
+{
+    uint32_t bits = chance() & 0xffffff;
+    return bits & chance();
+}
+
+static uint32_t some_caller(void) { return once_in(20) ? EDGE(2, 3, 0x100, 0xffffffff) : below(2); }
+static uint32_t some_domain(void) { return once_in(20) ? EDGE(2, 3, 0xffffffff) : below(2); }
+static uint32_t some_page(void) { return once_in(20) ? EDGE(OTP_PAGES, 0x100, 0xffffffff) : below(once_in(2) ? 4 : OTP_PAGES); }
+static uint32_t some_level(void) { return once_in(20) ? EDGE(3, 0xffffffff) : below(3); }
+static uint32_t some_raw(void) { return once_in(20) ? EDGE(0x1000000, 0xffffffff) : some_bits(); }
+static uint32_t some_value(void) { return once_in(20) ? EDGE(0x10000, 0xffffffff) : chance() & 0xffff; }
+static uint64_t some_length(void) { return once_in(30) ? EDGE(0, OTP_ROWS - 1, OTP_ROWS + 1) : OTP_ROWS; }
+
+/* Puts one entry into the job. */
+static void put_entry(uint32_t at, uint32_t row, uint32_t kind, uint32_t value)
+{
+    uint8_t entry[ENTRY] = {(uint8_t)row, (uint8_t)(row >> 8), (uint8_t)kind, (uint8_t)value, (uint8_t)(value >> 8), (uint8_t)(value >> 16)};
+    memcpy(job + HEAD + ENTRY * at, entry, ENTRY);
+}
+
+/* Writes a job of ascending rows, and gives its length. */
+static uint32_t write_job(uint32_t count)
+{
+    uint32_t row = below(4), step = count > 64 ? 6 : 90;
+    memcpy(job, "\x4f\x54\x4a\x01\x00", 5);
+    job[5] = (uint8_t)count;
+    job[6] = (uint8_t)(count >> 8);
+    for (uint32_t i = 0; i < count; i++) {
+        uint32_t kind = below(2);
+        put_entry(i, row, kind, kind == 0 ? chance() & 0xffff : some_bits());
+        row += 1 + below(step);
+    }
+    return HEAD + ENTRY * count;
+}
+
+/* Flips one bit of some bytes. */
+static void flip(uint8_t *bytes, uint32_t count)
+{
+    uint32_t at = below(count), place = below(8);
+    bytes[at] ^= (uint8_t)(1 << place);
+}
+
+/* Spoils a job in one place, and gives its length. */
+static uint32_t spoil(uint32_t length, uint32_t count)
+{
+    uint32_t at = count == 0 ? 0 : below(count);
+    switch (below(7)) {
+    case 0:
+        return below(length);
+    case 1:
+        return length + 1;
+    case 2:
+        flip(job, HEAD);
+        return length;
+    case 3:
+        put_entry(at, 0, 2 + below(254), 0);
+        return length;
+    case 4:
+        put_entry(at, 0, 0, 0x10000 + below(0xff0000));
+        return length;
+    default:
+        put_entry(at, EDGE(0, FIRST_KEPT_ROW, 0xffff), 1, 1);
+        return length;
+    }
+}
+
+static uint32_t some_job(void)
+{
+    uint32_t count = once_in(40) ? EDGE(512, 513) : below(12);
+    uint32_t length = write_job(count);
+    return once_in(3) ? spoil(length, count) : length;
+}
+
+#endif

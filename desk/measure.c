@@ -1,0 +1,200 @@
+/* The instructions and the most stack that each call of libotp.a takes on a core of the desk, for docs/TIMINGS.md. Both are measured: the
+   emulator counts the instructions, and the call is made once more on a stack of its own that was painted before. Each call is made by
+   Secure and is done (number 0). What C does to pass the state and to take it back is part of the call.
+
+   The board: 512 rows burnt by a job, key 1 burnt and valid, one page behind it, and the key entered. The full chip: every row below
+   0xf40 burnt, all six keys whole with a bit of each row worn away, every page locked and registered. */
+#include "core.h"
+#include "otp.h"
+
+#include <stdio.h>
+#include <string.h>
+
+enum {
+    ENTRIES = 512,
+    JOB = 7 + 6 * ENTRIES,
+    HALF_THE_PULSES = 2700,
+    KEYED_PAGE = 20,
+    KEYED_ROW = 1281,
+    FIRST_KEPT_ROW = 0xf40,
+    FIRST_KEY_ROW = 0xf48,
+    FIRST_VALID_ROW = 0xf79,
+    FIRST_LOCK_ROW = 0xf80,
+    STACK = 16384,
+};
+
+static const uint32_t blank[OTP_ROWS];
+static uint32_t board[OTP_ROWS], full[OTP_ROWS], rows[OTP_ROWS];
+static uint8_t job[JOB], key[OTP_KEY_BYTES];
+static otp_state board_state, state;
+static otp_answer answer;
+
+/* Keeps what an outcome holds, as a firmware would. */
+#define KEEP(call)                \
+    do {                          \
+        otp_outcome made = call;  \
+        answer = made.answer;     \
+        state = made.state;       \
+    } while (0)
+
+static void nothing(void) {}
+static void many(void) { __asm__ volatile(".rept 20000\n\tnop\n\t.endr"); }
+static void reset(void) { KEEP(otp_reset(rows, OTP_ROWS, state)); }
+static void read_raw(void) { answer = otp_read_raw(rows, OTP_ROWS, state, OTP_SECURE, 7); }
+static void read_ecc(void) { answer = otp_read_ecc(rows, OTP_ROWS, state, OTP_SECURE, 7); }
+static void read_keyed(void) { answer = otp_read_ecc(rows, OTP_ROWS, state, OTP_SECURE, KEYED_ROW); }
+static void read_vote_3(void) { answer = otp_read_vote(rows, OTP_ROWS, state, OTP_SECURE, 8, 3); }
+static void read_vote_8(void) { answer = otp_read_vote(rows, OTP_ROWS, state, OTP_SECURE, 8, 8); }
+static void write_raw(void) { KEEP(otp_write_raw(rows, OTP_ROWS, state, OTP_SECURE, 8, 0xff)); }
+static void write_ecc(void) { KEEP(otp_write_ecc(rows, OTP_ROWS, state, OTP_SECURE, 8, 0x5053)); }
+static void advance(void) { KEEP(otp_advance(state, OTP_SECURE, OTP_SECURE, 9, OTP_READ_ONLY)); }
+static void show(void) { answer = otp_show(state, OTP_SECURE, OTP_SECURE, 9); }
+static void enter_key(void) { KEEP(otp_enter_key(state, OTP_SECURE, key, OTP_KEY_BYTES)); }
+static void run_job(void) { KEEP(otp_run_job(rows, OTP_ROWS, state, job, JOB)); }
+static void rehearse(void) { KEEP(otp_rehearse(rows, OTP_ROWS, state, job, JOB, HALF_THE_PULSES)); }
+
+static const struct {
+    const char *name;
+    void (*call)(void);
+    const uint32_t *chip;
+} calls[] = {
+    {"reset of a blank chip", reset, blank},
+    {"reset of a full chip", reset, full},
+    {"read raw", read_raw, board},
+    {"read ECC", read_ecc, board},
+    {"read ECC behind a key", read_keyed, board},
+    {"read a vote of 3", read_vote_3, board},
+    {"read a vote of 8", read_vote_8, board},
+    {"write raw", write_raw, board},
+    {"write ECC", write_ecc, board},
+    {"advance a lock", advance, board},
+    {"show a lock", show, board},
+    {"enter a key", enter_key, board},
+    {"run a job of 512", run_job, blank},
+    {"rehearse 2,700 pulses", rehearse, blank},
+};
+
+/* Every seventh row, ECC, with values that spread over the 16 bits. */
+static void write_job(void)
+{
+    memcpy(job, "\x4f\x54\x4a\x01\x00\x00\x02", 7);
+    for (uint32_t i = 0; i < ENTRIES; i++) {
+        uint32_t row = 7 * i, value = 129 * i;
+        uint8_t entry[6] = {(uint8_t)row, (uint8_t)(row >> 8), 0, (uint8_t)value, (uint8_t)(value >> 8), 0};
+        memcpy(job + 7 + 6 * i, entry, sizeof entry);
+    }
+}
+
+/* Burns key k, counted from 0, and its valid flag; the words go up from 0x1234. */
+static void burn_key(uint32_t k)
+{
+    for (uint32_t i = 0; i < 8; i++)
+        KEEP(otp_write_ecc(rows, OTP_ROWS, state, OTP_SECURE, FIRST_KEY_ROW + 8 * k + i, 0x1234 + i));
+    KEEP(otp_write_raw(rows, OTP_ROWS, state, OTP_SECURE, FIRST_VALID_ROW + k, 0x010101));
+}
+
+static void make_board(void)
+{
+    write_job();
+    run_job();
+    burn_key(0);
+    KEEP(otp_write_raw(rows, OTP_ROWS, state, OTP_SECURE, FIRST_LOCK_ROW + 2 * KEYED_PAGE, 0x010101));
+    for (uint32_t i = 0; i < 8; i++) {
+        key[2 * i] = (uint8_t)(0x34 + i);
+        key[2 * i + 1] = 0x12;
+    }
+    memcpy(board, rows, sizeof rows);
+    reset();
+    enter_key();
+    board_state = state;
+}
+
+static void burn_every_row(void)
+{
+    for (uint32_t row = 0; row < FIRST_KEPT_ROW; row++)
+        KEEP(otp_write_ecc(rows, OTP_ROWS, state, OTP_SECURE, row, row * 15));
+}
+
+/* Each key, with the lowest set bit of each of its rows worn away. */
+static void burn_worn_keys(void)
+{
+    for (uint32_t k = 0; k < 6; k++)
+        burn_key(k);
+    for (uint32_t row = FIRST_KEY_ROW; row < FIRST_KEY_ROW + 48; row++)
+        rows[row] &= rows[row] - 1;
+}
+
+/* Each page: write key 1, read key 2 and no access without, and read only for both callers. */
+static void burn_locks(void)
+{
+    for (uint32_t row = FIRST_LOCK_ROW; row < OTP_ROWS; row++)
+        KEEP(otp_write_raw(rows, OTP_ROWS, state, OTP_SECURE, row, row % 2 == 0 ? 0x515151 : 0x050505));
+}
+
+static void make_full(void)
+{
+    otp_state start = OTP_START;
+    memset(rows, 0, sizeof rows);
+    state = start;
+    burn_every_row();
+    burn_worn_keys();
+    burn_locks();
+    memcpy(full, rows, sizeof rows);
+}
+
+static void prepare(const uint32_t *chip)
+{
+    memcpy(rows, chip, sizeof rows);
+    state = board_state;
+    answer.number = OTP_REFUSED_ARGUMENT;
+}
+
+/* Never cloned for one call, so that every call is reached in the same way. */
+__attribute__((noinline, noclone)) static uint32_t counted(void (*call)(void))
+{
+    uint32_t before = core_count();
+    call();
+    return core_count() - before;
+}
+
+/* The count goes on by a step that is the emulator's own, so it is held to that of 20,000 instructions, and rounded. */
+static uint32_t instructions(void (*call)(void))
+{
+    uint32_t empty = counted(nothing), took = counted(call) - empty, measure = counted(many) - empty;
+    return (uint32_t)(((uint64_t)took * 20000 + measure / 2) / measure);
+}
+
+static uint32_t stack_used(void (*call)(void))
+{
+    static _Alignas(16) uint8_t stack[STACK];
+    uint32_t untouched = 0;
+    memset(stack, 0xa5, sizeof stack);
+    core_call_on(stack + STACK, call);
+    while (untouched < STACK && stack[untouched] == 0xa5)
+        untouched++;
+    return STACK - untouched;
+}
+
+int main(void)
+{
+    core_count();
+    make_board();
+    make_full();
+    printf("call                     instructions   bytes of stack\n");
+    for (size_t i = 0; i < sizeof calls / sizeof calls[0]; i++) {
+        prepare(calls[i].chip);
+        uint32_t took = instructions(calls[i].call);
+        if (answer.number != OTP_DONE) {
+            printf("%s was refused with %u\n", calls[i].name, (unsigned)answer.number);
+            return 1;
+        }
+        prepare(calls[i].chip);
+        uint32_t stack = stack_used(calls[i].call);
+        if (stack == STACK) {
+            printf("%s takes all of the stack that it is measured on\n", calls[i].name);
+            return 1;
+        }
+        printf("%-24s %12u %16u\n", calls[i].name, (unsigned)took, (unsigned)stack);
+    }
+    return 0;
+}
