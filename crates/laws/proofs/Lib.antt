@@ -21,4 +21,5 @@ pub mod CutPower
 pub mod RehearsalCut
 pub mod Pulses
 pub mod Places
+pub mod Standing
 pub mod Turns
