@@ -12,7 +12,7 @@ use lib.ListN.{length, getD, take, drop, set, length-drop}
 use lib.Seq.{take-suc, take-suc-set, getD-drop}
 use Rattle.chip.specs.Permission.{mayRead}
 use Rattle.chip.specs.declared.state.State.{State}
-use Rattle.row.specs.Rungs.{Rung, firstOf, orElse}
+use Rattle.row.specs.Rungs.{firstOf, orElse}
 use Rattle.row.proofs.Ladders.{refusing, then-rungs}
 use Rattle.access.specs.Judging.{rowRungs}
 use Rattle.access.specs.Votes.{groupRungs}

@@ -1,15 +1,12 @@
 -- What a verdict sees of a state: what Secure may write. Two states that agree on it judge every job alike.
 -- Assumes nothing.
-use mathlib.Core.Bool.{Bool}
 use mathlib.Core.List.{List, [], _∷_}
-use mathlib.Core.Path.{_≡_, refl, ap}
+use mathlib.Core.Path.{_≡_, refl}
 use Prim.Native.Nat.{ℕ, _+_}
 use Rattle.chip.specs.Keys.{matches, keyLevel}
 use Rattle.chip.specs.Pages.{owner}
 use Rattle.chip.specs.Permission.{mayWrite}
-use Rattle.chip.specs.declared.state.Key.{Key}
 use Rattle.chip.specs.declared.state.State.{State}
-use Rattle.row.specs.Rungs.{Rung}
 use Rattle.job.specs.Entries.{entriesOf}
 use Rattle.job.specs.Verdicts.{allRungs, verdictOf}
 use Rattle.job.specs.declared.entries.Entry.{Entry}

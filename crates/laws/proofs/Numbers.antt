@@ -24,7 +24,7 @@ use Rattle.access.specs.Votes.{readVote}
 use Rattle.access.specs.Writes.{writeRaw, writeEcc}
 use Rattle.access.proofs.Answering.{read-done}
 use Rattle.job.specs.Jobs.{runJob, rehearse}
-use Rattle.laws.specs.Calls.{Chip, aReset, aRawRead, anEccRead, aVote, aRawWrite, anEccWrite, anAdvance, aShow, aKey, aJob, aRehearsal, perform}
+use Rattle.laws.specs.Calls.{aReset, aRawRead, anEccRead, aVote, aRawWrite, anEccWrite, anAdvance, aShow, aKey, aJob, aRehearsal, perform}
 use Rattle.laws.specs.Numbers.{numberOf, GivenExactly}
 
 abbrev ofAnswer : Answer → ℕ

@@ -2,13 +2,11 @@
 -- Assumes nothing.
 use mathlib.Core.Bool.{Bool, true, false, _&&_, _||_, and-eq-true-iff}
 use mathlib.Core.Path.{_≡_, refl}
-use Prim.Native.Nat.{ℕ}
 use borrow.Author.Tests.{eqb-true}
 use lib.Dec.{eqb}
 use Rattle.chip.specs.Pages.{isLockRow, owner}
 use Rattle.chip.specs.Permission.{rowKeyLevel, callerLevel, mayRead, mayWrite}
 use Rattle.chip.specs.States.{countedLevel}
-use Rattle.chip.specs.declared.state.State.{State}
 use Rattle.laws.specs.Promises.{MayWriteMayRead}
 
 or-true : (t : Bool) → (t || true) ≡ true

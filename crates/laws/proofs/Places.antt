@@ -20,7 +20,6 @@ use Rattle.row.proofs.Ladders.{nine}
 use Rattle.chip.specs.Permission.{mayWrite}
 use Rattle.chip.specs.Slices.{rowAt, notWhole, tooLarge}
 use Rattle.chip.specs.declared.state.State.{State}
-use Rattle.access.proofs.Passing.{whole}
 use Rattle.job.specs.Burning.{Progress}
 use Rattle.job.specs.Entries.{countOf, entryAt, entriesFrom}
 use Rattle.job.specs.Faults.{malformed, outOfOrder}

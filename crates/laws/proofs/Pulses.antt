@@ -5,7 +5,7 @@ use mathlib.Core.Path.{_≡_, refl, sym, _∙_, subst}
 use Prim.Native.Nat.{ℕ, _<_}
 use borrow.Author.Tests.{eq-eqb}
 use lib.Dec.{ltb}
-use lib.ListN.{length, set}
+use lib.ListN.{length}
 use Rattle.row.specs.Writing.{pulses, eccWritten, rawWritten}
 use Rattle.row.specs.declared.writing.Written.{Written}
 use Rattle.chip.specs.Permission.{mayWrite}
@@ -21,7 +21,7 @@ use Rattle.job.specs.Jobs.{runJob, rehearse}
 use Rattle.job.specs.Verdicts.{verdictOf}
 use Rattle.job.proofs.Faulty.{order-sound}
 use Rattle.job.proofs.Whole.{accepted, whole-job}
-use Rattle.laws.specs.Calls.{Chip, perform}
+use Rattle.laws.specs.Calls.{perform}
 use Rattle.laws.specs.Cuts.{newlySet}
 use Rattle.laws.specs.Promises.{Burns, PulsesAreNewBits}
 use Rattle.laws.proofs.Acceptance.{carried, carried-number}

@@ -6,7 +6,7 @@ use mathlib.Core.Bool.{false, _&&_}
 use mathlib.Core.Logic.{⊎-elim}
 use borrow.Author.Tests.{eq-eqb, ne-eqb}
 use lib.Dec.{eqb}
-use Rattle.chip.specs.Keys.{matches, keyLevel}
+use Rattle.chip.specs.Keys.{keyLevel}
 use Rattle.chip.proofs.keys.key_level.Statement.{statement}
 use Rattle.chip.proofs.keys.key_level.Tie as tie
 

@@ -1,8 +1,6 @@
 -- `chip::permission::share_permission` meets its contract, by that of `owner`.
 -- Assumes nothing.
 use borrow.Author.Needs.{needs}
-use mathlib.Core.Path.{sym, ap₂}
-use lib.Dec.{eqb}
 use Rattle.chip.proofs.permission.share_permission.Statement.{statement}
 use Rattle.chip.proofs.permission.share_permission.Tie as tie
 

@@ -5,7 +5,7 @@ use denote.Ref.{now}
 use mathlib.Core.Path.{_≡_, sym, ap, _∙_}
 use Prim.Native.Nat.{ℕ, _+_, _-_, _≤_, _<_}
 use native.Mathlib.Omega.{arith}
-use Rattle.job.specs.Entries.{entryAt, entriesFrom}
+use Rattle.job.specs.Entries.{entriesFrom}
 use Rattle.job.specs.Faults.{faultNumber, orderFault, orderFaults}
 use Rattle.job.specs.declared.entries.Entry.{Entry}
 use Rattle.job.proofs.Faulty.{order-stops, order-next, order-kept}
