@@ -1,8 +1,14 @@
-// The bench crew's command: rehearse a job on an image of a chip, read a row, show the pages, show the code of a value.
+// The bench crew's command: rehearse a job on an image of a chip, read a row, show the pages, dump or compare images, show the code
+// of a value.
 // The script ./otp at the root runs it, and turns the last line that it writes into an exit status.
 mod begin;
 mod changes;
 mod code;
+mod compare;
+mod differences;
+mod dump;
+mod dump_lines;
+mod ecc;
 mod ended;
 mod entered_key;
 mod file_errors;
@@ -20,6 +26,7 @@ mod refusals;
 mod refused_row;
 mod rehearse;
 mod reset_refusals;
+mod row_names;
 mod saving;
 mod shown;
 mod usage;
@@ -39,6 +46,12 @@ fn command() -> Ended {
     }
     if words::is(1, b"code") {
         return code::run();
+    }
+    if words::is(1, b"compare") {
+        return compare::run();
+    }
+    if words::is(1, b"dump") {
+        return dump::run();
     }
     if words::is(1, b"help") || words::is(1, b"--help") || words::is(1, b"-h") {
         return help::run();
