@@ -45,6 +45,7 @@ pub fn run() -> Ended {
         most: 2,
         key: false,
         save: false,
+        replace: false,
         ways: false,
     };
     if !usage::fit(words, takes) {

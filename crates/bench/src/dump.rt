@@ -75,6 +75,7 @@ pub fn run() -> Ended {
         most: 3,
         key: true,
         save: false,
+        replace: false,
         ways: false,
     };
     if !usage::fit(words, takes) {

@@ -32,6 +32,17 @@ fn on_other_files() {
         b"    The rows where two images differ, and the bits that B lacks or has more. The exit status",
     );
     print::line(b"    is 0 where they are the same, 1 where they differ.");
+    print::line(b"./otp list JOB");
+    print::line(
+        b"    The entries of a job as the text that `write` takes, with both rows of an ECC value.",
+    );
+    print::line(b"./otp write TEXT JOB [--replace]");
+    print::line(
+        b"    Makes a job of a text: a line for each entry, as `0x0c0 ecc 320` or `0x0c1 raw 0x000003`,",
+    );
+    print::line(
+        b"    and comments after #. It writes over a job that is there only with --replace.",
+    );
     print::line(b"./otp code VALUE");
     print::line(b"    The code of a value, and the two rows that hold it.");
     print::line(b"./otp help");

@@ -88,3 +88,10 @@ pub fn lines(rows: &[u32], state: State, job: &[u8], answer: Answer) {
     against(rows, state, number, entry_at(job, place));
     print::line(b"no row changes");
 }
+
+// A job that is refused for its bytes, on one line.
+pub fn fault_line(job: &[u8], number: u32) {
+    number_and_words(number);
+    fault(job);
+    print::end();
+}

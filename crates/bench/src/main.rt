@@ -1,5 +1,5 @@
-// The bench crew's command: rehearse a job on an image of a chip, read a row, show the pages, dump or compare images, show the code
-// of a value.
+// The bench crew's command: rehearse a job on an image of a chip, read a row, show the pages, dump or compare images, list or write a
+// job, show the code of a value.
 // The script ./otp at the root runs it, and turns the last line that it writes into an exit status.
 mod begin;
 mod changes;
@@ -14,8 +14,10 @@ mod entered_key;
 mod file_errors;
 mod files;
 mod help;
+mod job_bytes;
 mod job_refusals;
 mod levels;
+mod list;
 mod numbers;
 mod owner;
 mod page_line;
@@ -29,8 +31,13 @@ mod reset_refusals;
 mod row_names;
 mod saving;
 mod shown;
+mod text_entry;
+mod text_errors;
+mod text_job;
+mod text_words;
 mod usage;
 mod words;
+mod write;
 
 use ended::Ended;
 
@@ -52,6 +59,12 @@ fn command() -> Ended {
     }
     if words::is(1, b"dump") {
         return dump::run();
+    }
+    if words::is(1, b"list") {
+        return list::run();
+    }
+    if words::is(1, b"write") {
+        return write::run();
     }
     if words::is(1, b"help") || words::is(1, b"--help") || words::is(1, b"-h") {
         return help::run();
