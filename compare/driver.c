@@ -7,8 +7,8 @@
  *
  *     request     call, rows_len, count of entries, count of bytes, four arguments, the state (444 bytes), the entries (place,
  *                 value), then the bytes of a key or a job
- *     reply       count of entries, the answer (24 bytes), the state if the call answers one, then the entries (place, value) that
- *                 the call changed
+ *     reply       count of entries, the answer (24 bytes), the state if the call gives one back, then the entries (place, value)
+ *                 that the call changed
  *
  * The whole image is looked at after each call, so a change to an entry that the call was not lent is told too. A request that is
  * none of these ends the program with one line and 1.
@@ -24,8 +24,8 @@
 
 enum { ENTRIES = 8192, MOST_BYTES = 65536, PIPE = 1 << 16 };
 
-/* The calls, in the order of the header. */
-enum { RESET, READ_RAW, READ_ECC, READ_VOTE, WRITE_RAW, WRITE_ECC, ADVANCE, SHOW, ENTER_KEY, RUN_JOB, REHEARSE };
+/* The calls, in the order of the list in src/call.rs: tests/driver.rs holds the two to each other. */
+typedef enum { RESET, READ_RAW, READ_ECC, READ_VOTE, WRITE_RAW, WRITE_ECC, ADVANCE, SHOW, ENTER_KEY, RUN_JOB, REHEARSE } call;
 
 typedef struct {
     uint32_t call;
@@ -56,7 +56,7 @@ static uint32_t before[ENTRIES];
 static entry entries[ENTRIES];
 static uint8_t bytes[MOST_BYTES];
 
-static void stop(const char *why)
+_Noreturn static void stop(const char *why)
 {
     fprintf(stderr, "driver: %s\n", why);
     exit(1);
@@ -122,66 +122,58 @@ static uint32_t changed(void)
     return count;
 }
 
-/* Whether a call answers no state. */
-static bool only_answers(uint32_t call)
+/* What comes back of a call that gives no state back, and of one that does: each says how much of it is to be told. */
+static size_t answer(otp_outcome *made, otp_answer back)
 {
-    return call == READ_RAW || call == READ_ECC || call == READ_VOTE || call == SHOW;
+    made->answer = back;
+    return sizeof made->answer;
 }
 
-/* Makes a call that only answers. */
-static otp_answer answer(const request *r)
+static size_t outcome(otp_outcome *made, otp_outcome back)
+{
+    *made = back;
+    return sizeof *made;
+}
+
+/* Makes the call. There is no default, so that the compiler names a call that is missing. */
+static size_t make(const request *r, otp_outcome *made)
 {
     const uint32_t *a = r->arguments;
 
-    switch (r->call) {
-    case READ_RAW:
-        return otp_read_raw(image, r->rows_len, r->state, a[0], a[1]);
-    case READ_ECC:
-        return otp_read_ecc(image, r->rows_len, r->state, a[0], a[1]);
-    case READ_VOTE:
-        return otp_read_vote(image, r->rows_len, r->state, a[0], a[1], a[2]);
-    default:
-        return otp_show(r->state, a[0], a[1], a[2]);
-    }
-}
-
-/* Makes a call that answers a state too. */
-static otp_outcome outcome(const request *r)
-{
-    const uint32_t *a = r->arguments;
-
-    switch (r->call) {
+    switch ((call)r->call) {
     case RESET:
-        return otp_reset(image, r->rows_len, r->state);
+        return outcome(made, otp_reset(image, r->rows_len, r->state));
+    case READ_RAW:
+        return answer(made, otp_read_raw(image, r->rows_len, r->state, a[0], a[1]));
+    case READ_ECC:
+        return answer(made, otp_read_ecc(image, r->rows_len, r->state, a[0], a[1]));
+    case READ_VOTE:
+        return answer(made, otp_read_vote(image, r->rows_len, r->state, a[0], a[1], a[2]));
     case WRITE_RAW:
-        return otp_write_raw(image, r->rows_len, r->state, a[0], a[1], a[2]);
+        return outcome(made, otp_write_raw(image, r->rows_len, r->state, a[0], a[1], a[2]));
     case WRITE_ECC:
-        return otp_write_ecc(image, r->rows_len, r->state, a[0], a[1], a[2]);
+        return outcome(made, otp_write_ecc(image, r->rows_len, r->state, a[0], a[1], a[2]));
     case ADVANCE:
-        return otp_advance(r->state, a[0], a[1], a[2], a[3]);
+        return outcome(made, otp_advance(r->state, a[0], a[1], a[2], a[3]));
+    case SHOW:
+        return answer(made, otp_show(r->state, a[0], a[1], a[2]));
     case ENTER_KEY:
-        return otp_enter_key(r->state, a[0], bytes, r->bytes);
+        return outcome(made, otp_enter_key(r->state, a[0], bytes, r->bytes));
     case RUN_JOB:
-        return otp_run_job(image, r->rows_len, r->state, bytes, r->bytes);
-    default:
-        return otp_rehearse(image, r->rows_len, r->state, bytes, r->bytes, a[0]);
+        return outcome(made, otp_run_job(image, r->rows_len, r->state, bytes, r->bytes));
+    case REHEARSE:
+        return outcome(made, otp_rehearse(image, r->rows_len, r->state, bytes, r->bytes, a[0]));
     }
+    stop("there is no such call");
 }
 
 /* Makes the call and writes the reply. */
 static void reply(const request *r)
 {
     otp_outcome made;
-    size_t size = sizeof made;
-    uint32_t count;
+    size_t size = make(r, &made);
+    uint32_t count = changed();
 
-    if (only_answers(r->call)) {
-        made.answer = answer(r);
-        size = sizeof made.answer;
-    } else {
-        made = outcome(r);
-    }
-    count = changed();
     give(&count, sizeof count, 1);
     give(&made, size, 1);
     give(entries, sizeof *entries, count);
@@ -198,9 +190,6 @@ int main(void)
     setvbuf(stdin, in, _IOFBF, sizeof in);
     setvbuf(stdout, out, _IOFBF, sizeof out);
     while (next(&asked)) {
-        if (asked.call > REHEARSE) {
-            stop("there is no such call");
-        }
         lay(asked.entries);
         reply(&asked);
     }

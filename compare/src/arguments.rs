@@ -3,7 +3,7 @@
 use crate::bench::BUFFER;
 use crate::images::Image;
 use crate::random::Random;
-use crate::shape::{LARGEST, LOCK_ROWS, ROWS};
+use crate::shape::{CALLERS, LARGEST, LOCK_ROWS, ROWS};
 
 /// Numbers that no argument of a call allows.
 const FAR: [u32; 6] = [
@@ -33,7 +33,7 @@ pub fn caller(random: &mut Random) -> u32 {
     match random.below(24) {
         0 => random.pick(&[2, 3, 255, 256]),
         1 => far(random),
-        _ => random.below(2),
+        _ => random.below(CALLERS),
     }
 }
 

@@ -1,8 +1,8 @@
 //! Makes each call on both sides and compares everything that comes back: the answer, the state, every row.
 
-use crate::call::Call;
+use crate::call::{Call, Chip};
 use crate::locks::owner;
-use crate::shape::{Answer, Chip, Outcome, State, ROWS};
+use crate::shape::{Answer, State, ROWS};
 use crate::tally::Tally;
 
 /// The rows lie in a longer buffer, so that a slice can be too long and a stray write is seen.
@@ -60,10 +60,10 @@ impl<'a> Bench<'a> {
     /// Makes the call with a slice of the given length.
     pub fn call_with(&mut self, call: &Call, length: usize) -> Result<Answer, Difference> {
         let setting = call.rows().map_or(String::new(), |(row, _)| self.setting(row));
-        let theirs = call.make(self.library, &mut self.theirs[..length], self.state);
-        let ours = call.make(self.model, &mut self.ours[..length], self.state);
+        let theirs = self.library.make(call, &mut self.theirs[..length], self.state);
+        let ours = self.model.make(call, &mut self.ours[..length], self.state);
         self.tally.note(call.index(), theirs.answer.number);
-        let found = outcomes(&theirs, &ours).or_else(|| self.row_differs());
+        let found = theirs.differs(&ours).or_else(|| self.row_differs());
         if let Some(found) = found {
             return Err(self.report(call, length, &setting, &found));
         }
@@ -104,42 +104,4 @@ impl<'a> Bench<'a> {
         let calls = self.tally.calls;
         Difference(format!("call {calls} differs: {call}{slice}{setting}: {found}"))
     }
-}
-
-/// One named field on both sides.
-fn field<T: PartialEq + std::fmt::Debug>(name: &str, theirs: T, ours: T) -> Option<String> {
-    (theirs != ours).then(|| format!("{name}: library {theirs:?}, model {ours:?}"))
-}
-
-/// One named list on both sides.
-fn list<T: PartialEq + std::fmt::Debug>(name: &str, theirs: &[T], ours: &[T]) -> Option<String> {
-    let place = (0..theirs.len()).find(|i| theirs[*i] != ours[*i])?;
-    field(&format!("{name}[{place}]"), &theirs[place], &ours[place])
-}
-
-/// The first field in which two outcomes differ.
-pub fn outcomes(theirs: &Outcome, ours: &Outcome) -> Option<String> {
-    if theirs == ours {
-        return None;
-    }
-    answers(&theirs.answer, &ours.answer).or_else(|| states(&theirs.state, &ours.state))
-}
-
-fn answers(theirs: &Answer, ours: &Answer) -> Option<String> {
-    field("answer.number", theirs.number, ours.number)
-        .or_else(|| field("answer.value", theirs.value, ours.value))
-        .or_else(|| field("answer.condition", theirs.condition, ours.condition))
-        .or_else(|| field("answer.bit", theirs.bit, ours.bit))
-        .or_else(|| field("answer.place", theirs.place, ours.place))
-        .or_else(|| field("answer.pulses", theirs.pulses, ours.pulses))
-}
-
-fn states(theirs: &State, ours: &State) -> Option<String> {
-    list("state.secure", &theirs.secure, &ours.secure)
-        .or_else(|| list("state.nonsecure", &theirs.nonsecure, &ours.nonsecure))
-        .or_else(|| list("state.writekey", &theirs.writekey, &ours.writekey))
-        .or_else(|| list("state.readkey", &theirs.readkey, &ours.readkey))
-        .or_else(|| list("state.nokey", &theirs.nokey, &ours.nokey))
-        .or_else(|| list("state.keys", &theirs.keys, &ours.keys))
-        .or_else(|| list("state.entered", &theirs.entered, &ours.entered))
 }

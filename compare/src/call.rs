@@ -1,132 +1,151 @@
-//! A call with its arguments: how it is made on either side, how it is written in a report, what it can answer.
+//! The calls, in one list: each with its arguments, the rows that it is lent, what comes back, and the numbers that it
+//! can give. A new call is a new line of it: the compiler then asks for it wherever one call is told from another.
 
 use std::fmt;
 
-use crate::shape::{Chip, Outcome, State};
+use crate::shape::{Outcome, State};
 
-#[derive(Clone, Debug)]
-pub enum Call {
-    Reset,
-    ReadRaw {
-        caller: u32,
-        row: u32,
-    },
-    ReadEcc {
-        caller: u32,
-        row: u32,
-    },
-    ReadVote {
-        caller: u32,
-        row: u32,
-        count: u32,
-    },
-    WriteRaw {
-        caller: u32,
-        row: u32,
-        value: u32,
-    },
-    WriteEcc {
-        caller: u32,
-        row: u32,
-        value: u32,
-    },
-    Advance {
-        caller: u32,
-        domain: u32,
-        page: u32,
-        level: u32,
-    },
-    Show {
-        caller: u32,
-        domain: u32,
-        page: u32,
-    },
-    EnterKey {
-        caller: u32,
-        key: Vec<u8>,
-    },
-    RunJob {
-        job: Vec<u8>,
-    },
-    Rehearse {
-        job: Vec<u8>,
-        limit: u32,
-    },
+/// What makes calls: the library, the model.
+pub trait Chip {
+    /// Makes a call. One that cannot change the state gives it back as it was passed.
+    fn make(&self, call: &Call, rows: &mut [u32], state: State) -> Outcome;
 }
 
-/// Each call's name and the numbers that it can give, in the order of their standing.
-pub const CALLS: [(&str, &[u32]); 11] = [
-    ("reset", &[0, 1, 3]),
-    ("read_raw", &[0, 1, 4, 2, 6, 7, 3]),
-    ("read_ecc", &[0, 1, 4, 2, 5, 6, 7, 3, 8]),
-    ("read_vote", &[0, 1, 4, 2, 5, 6, 7, 3]),
-    ("write_raw", &[0, 1, 4, 2, 6, 7, 3]),
-    ("write_ecc", &[0, 1, 4, 2, 5, 6, 7, 3, 9]),
-    ("advance", &[0, 4, 7]),
-    ("show", &[0, 4]),
-    ("enter_key", &[0, 4, 7]),
-    ("run_job", &[0, 1, 10, 11, 7, 3, 9]),
-    ("rehearse", &[0, 1, 10, 11, 7, 3, 9]),
-];
+/// For what a call is lent the rows, if it is.
+#[derive(Clone, Copy, Debug, PartialEq, Eq)]
+pub enum Lent {
+    Never,
+    ToRead,
+    ToBurn,
+}
+
+/// What comes back: an answer alone, or the state too.
+#[derive(Clone, Copy, Debug, PartialEq, Eq)]
+pub enum Back {
+    Answer,
+    State,
+}
+
+/// What holds of a call whatever its arguments are. The numbers are in the order of their standing.
+pub struct Kind {
+    pub name: &'static str,
+    pub lent: Lent,
+    pub back: Back,
+    pub numbers: &'static [u32],
+}
+
+/// An argument of a call.
+enum Argument<'a> {
+    Number(u32),
+    Bytes(&'a [u8]),
+}
+
+impl From<&u32> for Argument<'_> {
+    fn from(number: &u32) -> Self {
+        Argument::Number(*number)
+    }
+}
+
+impl<'a> From<&'a Vec<u8>> for Argument<'a> {
+    fn from(bytes: &'a Vec<u8>) -> Self {
+        Argument::Bytes(bytes)
+    }
+}
+
+/// Makes of the list the type of a call, the kinds of calls, and the way from a call to its line and its arguments.
+macro_rules! calls {
+    ($($name:literal $call:ident { $($argument:ident: $type:ty),* } $lent:ident, $back:ident, $numbers:expr;)*) => {
+        #[derive(Clone, Debug)]
+        pub enum Call {
+            $($call { $($argument: $type),* },)*
+        }
+
+        pub const CALLS: &[Kind] = &[
+            $(Kind { name: $name, lent: Lent::$lent, back: Back::$back, numbers: &$numbers },)*
+        ];
+
+        impl Call {
+            /// The call's place in the list.
+            pub fn index(&self) -> usize {
+                enum Place {
+                    $($call,)*
+                }
+                match self {
+                    $(Call::$call { .. } => Place::$call as usize,)*
+                }
+            }
+
+            /// The arguments with their names, in the order of the list.
+            fn arguments(&self) -> Vec<(&'static str, Argument<'_>)> {
+                match self {
+                    $(Call::$call { $($argument),* } => vec![$((stringify!($argument), Argument::from($argument))),*],)*
+                }
+            }
+        }
+    };
+}
+
+calls! {
+    "reset"     Reset {}                                                    ToRead, State,  [0, 1, 3];
+    "read_raw"  ReadRaw { caller: u32, row: u32 }                           ToRead, Answer, [0, 1, 4, 2, 6, 7, 3];
+    "read_ecc"  ReadEcc { caller: u32, row: u32 }                           ToRead, Answer, [0, 1, 4, 2, 5, 6, 7, 3, 8];
+    "read_vote" ReadVote { caller: u32, row: u32, count: u32 }              ToRead, Answer, [0, 1, 4, 2, 5, 6, 7, 3];
+    "write_raw" WriteRaw { caller: u32, row: u32, value: u32 }              ToBurn, State,  [0, 1, 4, 2, 6, 7, 3];
+    "write_ecc" WriteEcc { caller: u32, row: u32, value: u32 }              ToBurn, State,  [0, 1, 4, 2, 5, 6, 7, 3, 9];
+    "advance"   Advance { caller: u32, domain: u32, page: u32, level: u32 } Never,  State,  [0, 4, 7];
+    "show"      Show { caller: u32, domain: u32, page: u32 }                Never,  Answer, [0, 4];
+    "enter_key" EnterKey { caller: u32, key: Vec<u8> }                      Never,  State,  [0, 4, 7];
+    "run_job"   RunJob { job: Vec<u8> }                                     ToBurn, State,  [0, 1, 10, 11, 7, 3, 9];
+    "rehearse"  Rehearse { limit: u32, job: Vec<u8> }                       ToBurn, State,  [0, 1, 10, 11, 7, 3, 9];
+}
 
 impl Call {
-    /// The call's place in the list above.
-    pub fn index(&self) -> usize {
-        match self {
-            Call::Reset => 0,
-            Call::ReadRaw { .. } => 1,
-            Call::ReadEcc { .. } => 2,
-            Call::ReadVote { .. } => 3,
-            Call::WriteRaw { .. } => 4,
-            Call::WriteEcc { .. } => 5,
-            Call::Advance { .. } => 6,
-            Call::Show { .. } => 7,
-            Call::EnterKey { .. } => 8,
-            Call::RunJob { .. } => 9,
-            Call::Rehearse { .. } => 10,
-        }
-    }
-
-    pub fn name(&self) -> &'static str {
-        CALLS[self.index()].0
+    pub fn kind(&self) -> &'static Kind {
+        &CALLS[self.index()]
     }
 
     /// Whether the call is lent rows.
     pub fn takes_rows(&self) -> bool {
-        !matches!(self, Call::Advance { .. } | Call::Show { .. } | Call::EnterKey { .. })
+        self.kind().lent != Lent::Never
+    }
+
+    /// The arguments that are numbers, then zeros: the driver takes four.
+    pub fn numbers(&self) -> [u32; 4] {
+        let mut four = [0; 4];
+        let numbers = self.arguments().into_iter().filter_map(|(_, argument)| match argument {
+            Argument::Number(number) => Some(number),
+            Argument::Bytes(_) => None,
+        });
+        for (place, number) in numbers.enumerate() {
+            four[place] = number;
+        }
+        four
+    }
+
+    /// The key's or the job's bytes, or none.
+    pub fn bytes(&self) -> &[u8] {
+        let bytes = self.arguments().into_iter().find_map(|(_, argument)| match argument {
+            Argument::Number(_) => None,
+            Argument::Bytes(bytes) => Some(bytes),
+        });
+        bytes.unwrap_or_default()
     }
 
     /// The rows that the call names: the first, and how many.
     pub fn rows(&self) -> Option<(u32, u32)> {
-        match self {
-            Call::ReadRaw { row, .. } | Call::ReadEcc { row, .. } => Some((*row, 1)),
-            Call::WriteRaw { row, .. } | Call::WriteEcc { row, .. } => Some((*row, 1)),
-            Call::ReadVote { row, count, .. } => Some((*row, (*count).min(8))),
-            _ => None,
-        }
+        let row = self.number("row")?;
+        let count = self.number("count").unwrap_or(1);
+        Some((row, count.min(8)))
     }
 
-    /// Makes the call. A call that cannot change the state gives it back as it was passed.
-    pub fn make(&self, chip: &dyn Chip, rows: &mut [u32], state: State) -> Outcome {
-        let answer = match self {
-            Call::Reset => return chip.reset(rows, state),
-            Call::ReadRaw { caller, row } => chip.read_raw(rows, state, *caller, *row),
-            Call::ReadEcc { caller, row } => chip.read_ecc(rows, state, *caller, *row),
-            Call::ReadVote { caller, row, count } => chip.read_vote(rows, state, *caller, *row, *count),
-            Call::WriteRaw { caller, row, value } => return chip.write_raw(rows, state, *caller, *row, *value),
-            Call::WriteEcc { caller, row, value } => return chip.write_ecc(rows, state, *caller, *row, *value),
-            Call::Advance {
-                caller,
-                domain,
-                page,
-                level,
-            } => return chip.advance(state, *caller, *domain, *page, *level),
-            Call::Show { caller, domain, page } => chip.show(state, *caller, *domain, *page),
-            Call::EnterKey { caller, key } => return chip.enter_key(state, *caller, key),
-            Call::RunJob { job } => return chip.run_job(rows, state, job),
-            Call::Rehearse { job, limit } => return chip.rehearse(rows, state, job, *limit),
-        };
-        Outcome { answer, state }
+    /// The number of an argument that the call has.
+    fn number(&self, wanted: &str) -> Option<u32> {
+        self.arguments()
+            .into_iter()
+            .find_map(|(name, argument)| match argument {
+                Argument::Number(number) if name == wanted => Some(number),
+                _ => None,
+            })
     }
 }
 
@@ -140,32 +159,15 @@ fn hex(bytes: &[u8]) -> String {
 
 impl fmt::Display for Call {
     fn fmt(&self, out: &mut fmt::Formatter) -> fmt::Result {
-        write!(out, "{}", self.name())?;
-        match self {
-            Call::Reset => Ok(()),
-            Call::ReadRaw { caller, row } | Call::ReadEcc { caller, row } => {
-                write!(out, " caller {caller} row {row:#05x}")
+        write!(out, "{}", self.kind().name)?;
+        for (name, argument) in self.arguments() {
+            match argument {
+                Argument::Number(row) if name == "row" => write!(out, " row {row:#05x}")?,
+                Argument::Number(value) if name == "value" => write!(out, " value {value:#x}")?,
+                Argument::Number(number) => write!(out, " {name} {number}")?,
+                Argument::Bytes(bytes) => write!(out, " {name} {}", hex(bytes))?,
             }
-            Call::ReadVote { caller, row, count } => {
-                write!(out, " caller {caller} row {row:#05x} count {count}")
-            }
-            Call::WriteRaw { caller, row, value } | Call::WriteEcc { caller, row, value } => {
-                write!(out, " caller {caller} row {row:#05x} value {value:#x}")
-            }
-            Call::Advance {
-                caller,
-                domain,
-                page,
-                level,
-            } => {
-                write!(out, " caller {caller} domain {domain} page {page} level {level}")
-            }
-            Call::Show { caller, domain, page } => {
-                write!(out, " caller {caller} domain {domain} page {page}")
-            }
-            Call::EnterKey { caller, key } => write!(out, " caller {caller} key {}", hex(key)),
-            Call::RunJob { job } => write!(out, " job {}", hex(job)),
-            Call::Rehearse { job, limit } => write!(out, " limit {limit} job {}", hex(job)),
         }
+        Ok(())
     }
 }

@@ -1,7 +1,7 @@
 //! A row with ECC: the code worked out bit by bit, reading by distance, writing by the bits already present.
 
 use crate::fault::Fault;
-use crate::model::Model;
+use crate::row::{bit, within};
 use crate::shape::LARGEST;
 
 /// Check bit i covers the bits of mask i; the last covers the first five.
@@ -21,12 +21,9 @@ pub struct Near {
 pub struct Codes {
     codes: Vec<u32>,
     near: Vec<Option<Near>>,
+    fault: Option<Fault>,
     /// How many words lay near two values: none, with the masks of document 01.
     pub shared: usize,
-}
-
-pub fn bit(word: u32, place: u32) -> bool {
-    (word >> place) & 1 == 1
 }
 
 /// The code of a value: the check bits are worked out in order, each from the bits that stand so far.
@@ -53,6 +50,7 @@ impl Codes {
         let mut made = Codes {
             codes,
             near: vec![None; 1 << CODE_BITS],
+            fault,
             shared: 0,
         };
         for value in 0..=0xffff {
@@ -86,36 +84,37 @@ impl Codes {
     pub fn near(&self, word: u32) -> Option<Near> {
         self.near[(word & CODE_PART) as usize]
     }
-}
 
-impl Model {
     /// Reads one row of 24 bits; none stands for refusal 8.
     pub fn decode(&self, row: u32) -> Option<Near> {
-        let inverted = if self.has(Fault::FlipOnOne) {
+        let inverted = if self.fault == Some(Fault::FlipOnOne) {
             row & POLARITY != 0
         } else {
             row & POLARITY == POLARITY
         };
-        self.codes.near(if inverted { self.invert(row) } else { row })
+        self.near(if inverted { self.invert(row) } else { row })
     }
 
     /// The other polarity of a row.
     fn invert(&self, row: u32) -> u32 {
-        row ^ if self.has(Fault::Flip22) { CODE_PART } else { LARGEST }
+        row ^ if self.fault == Some(Fault::Flip22) {
+            CODE_PART
+        } else {
+            LARGEST
+        }
     }
 
     /// The row to burn for a value over the bits already there; none stands for refusal 9.
     pub fn polarity(&self, value: u32, old: u32) -> Option<u32> {
-        let plain = self.codes.of(value);
+        let plain = self.of(value);
         let inverted = self.invert(plain);
-        let fits = |row: u32| (0..24).all(|place| !bit(old, place) || bit(row, place));
-        if self.has(Fault::PolarityFromValue) {
+        if self.fault == Some(Fault::PolarityFromValue) {
             let chosen = if plain.count_ones() > 12 { inverted } else { plain };
-            return Some(chosen).filter(|row| fits(*row));
+            return Some(chosen).filter(|row| within(old, *row));
         }
-        if fits(plain) {
+        if within(old, plain) {
             Some(plain)
-        } else if fits(inverted) {
+        } else if within(old, inverted) {
             Some(inverted)
         } else {
             None

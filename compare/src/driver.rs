@@ -4,27 +4,16 @@
 use std::io::{self, BufReader, Read, Write};
 use std::process::{Child, ChildStdin, ChildStdout, Command, Stdio};
 
+use crate::call::{Back, Call};
+use crate::part::Part;
 use crate::shape::{Answer, State};
-use crate::wire;
 
 /// How many entries the driver's image has.
 const IMAGE: usize = 8192;
 /// Room for a reply with some thousand entries.
 const BUFFER: usize = 1 << 16;
 
-/// A call as the driver takes it.
-pub struct Request<'a> {
-    /// Its place in the list of calls.
-    pub call: usize,
-    /// Whether it answers a state.
-    pub outcome: bool,
-    pub rows: &'a [u32],
-    pub state: &'a State,
-    pub arguments: [u32; 4],
-    pub bytes: &'a [u8],
-}
-
-/// What came back: the state is there if the request's call answers one.
+/// What came back: the state is there if the call gives one back.
 pub struct Reply {
     pub answer: Answer,
     pub state: Option<State>,
@@ -38,7 +27,9 @@ pub struct Driver {
     output: BufReader<ChildStdout>,
     /// The driver's image, as it stands there.
     image: Vec<u32>,
+    /// The bytes of the request, and of the part of a reply that is being read.
     request: Vec<u8>,
+    part: Vec<u8>,
 }
 
 impl Driver {
@@ -60,34 +51,35 @@ impl Driver {
             output: BufReader::with_capacity(BUFFER, output),
             image: vec![0; IMAGE],
             request: Vec::with_capacity(BUFFER),
+            part: Vec::new(),
         })
     }
 
-    /// Makes one call.
-    pub fn ask(&mut self, request: &Request) -> Result<Reply, String> {
-        self.write_down(request);
+    /// Makes one call on these rows.
+    pub fn ask(&mut self, call: &Call, rows: &[u32], state: &State) -> Result<Reply, String> {
+        self.write_down(call, rows, state);
         let sent = self.send();
         sent.map_err(|error| self.lost(error))?;
-        self.receive(request.outcome)
+        self.receive(call.kind().back)
     }
 
     /// The request's bytes. Only the entries that the driver's image lacks are among them.
-    fn write_down(&mut self, request: &Request) {
-        let differ: Vec<usize> = differences(request.rows, &self.image);
+    fn write_down(&mut self, call: &Call, rows: &[u32], state: &State) {
+        let differ: Vec<usize> = differences(rows, &self.image);
         self.request.clear();
-        for count in [request.call, request.rows.len(), differ.len(), request.bytes.len()] {
-            wire::put_number(&mut self.request, count as u32);
+        for count in [call.index(), rows.len(), differ.len(), call.bytes().len()] {
+            (count as u32).put(&mut self.request);
         }
-        for argument in request.arguments {
-            wire::put_number(&mut self.request, argument);
+        for number in call.numbers() {
+            number.put(&mut self.request);
         }
-        wire::put_state(&mut self.request, request.state);
+        state.put(&mut self.request);
         for place in differ {
-            self.image[place] = request.rows[place];
-            wire::put_number(&mut self.request, place as u32);
-            wire::put_number(&mut self.request, request.rows[place]);
+            self.image[place] = rows[place];
+            (place as u32).put(&mut self.request);
+            rows[place].put(&mut self.request);
         }
-        self.request.extend(request.bytes);
+        self.request.extend(call.bytes());
     }
 
     fn send(&mut self) -> io::Result<()> {
@@ -97,17 +89,17 @@ impl Driver {
         }
     }
 
-    fn receive(&mut self, outcome: bool) -> Result<Reply, String> {
-        let count = wire::number(&self.read()?);
-        let answer = wire::answer(&self.read()?);
-        let state = match outcome {
-            true => Some(wire::state(&self.read()?)?),
-            false => None,
+    fn receive(&mut self, back: Back) -> Result<Reply, String> {
+        let count: u32 = self.read()?;
+        let answer = self.read()?;
+        let state = match back {
+            Back::State => Some(self.read()?),
+            Back::Answer => None,
         };
         let mut changed = Vec::new();
         for _ in 0..count {
-            let place = wire::number(&self.read()?) as usize;
-            let value = wire::number(&self.read()?);
+            let place = self.read::<u32>()? as usize;
+            let value = self.read()?;
             let entry = self
                 .image
                 .get_mut(place)
@@ -118,10 +110,10 @@ impl Driver {
         Ok(Reply { answer, state, changed })
     }
 
-    fn read<const N: usize>(&mut self) -> Result<[u8; N], String> {
-        let mut bytes = [0; N];
-        match self.output.read_exact(&mut bytes) {
-            Ok(()) => Ok(bytes),
+    fn read<T: Part>(&mut self) -> Result<T, String> {
+        self.part.resize(T::SIZE, 0);
+        match self.output.read_exact(&mut self.part) {
+            Ok(()) => T::take(&mut self.part.as_slice()),
             Err(error) => Err(self.lost(error)),
         }
     }

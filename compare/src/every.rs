@@ -1,8 +1,8 @@
 //! Every row value read with ECC, and every ECC value written over each row that has at most one bit set.
 
-use crate::bench::{outcomes, Difference};
-use crate::call::Call;
-use crate::shape::{Chip, State, LARGEST, ROWS};
+use crate::bench::Difference;
+use crate::call::{Call, Chip};
+use crate::shape::{State, LARGEST, ROWS};
 
 /// The row used: any page without locks would do.
 const ROW: u32 = 0x0c0;
@@ -46,12 +46,12 @@ impl Sides<'_> {
     fn compare(&mut self, call: &Call, entry: u32) -> Result<(), Difference> {
         self.theirs[ROW as usize] = entry;
         self.ours[ROW as usize] = entry;
-        let theirs = call.make(self.library, &mut self.theirs, State::blank());
-        let ours = call.make(self.model, &mut self.ours, State::blank());
+        let theirs = self.library.make(call, &mut self.theirs, State::blank());
+        let ours = self.model.make(call, &mut self.ours, State::blank());
         self.calls += 1;
         let (left, right) = (self.theirs[ROW as usize], self.ours[ROW as usize]);
         let rows = (left != right).then(|| format!("the row: library {left:#08x}, model {right:#08x}"));
-        match outcomes(&theirs, &ours).or(rows) {
+        match theirs.differs(&ours).or(rows) {
             Some(found) => Err(Difference(format!(
                 "differs: {call} (the row held {entry:#08x}): {found}"
             ))),

@@ -1,8 +1,10 @@
 //! Job files: their bytes, their judging entry by entry, and their burning pulse by pulse.
 
-use crate::code::bit;
 use crate::fault::Fault;
-use crate::model::{need, Model};
+use crate::ladder::need;
+use crate::model::Model;
+use crate::permission::may_write;
+use crate::row::{bit, within};
 use crate::shape::{Answer, State, LARGEST, ROWS, SECURE};
 
 /// Rows from here up are no business of a job.
@@ -68,10 +70,10 @@ impl Model {
         let row = entry.row as usize;
         let old = rows[row];
         need(old <= LARGEST || !self.has(Fault::SizeFirst), 3)?;
-        need(self.may_write(state, SECURE, entry.row), 7)?;
+        need(may_write(self.fault, state, SECURE, entry.row), 7)?;
         need(old <= LARGEST, 3)?;
         let bits = match entry.kind {
-            0 => self.polarity(entry.value, old).ok_or(9u32)?,
+            0 => self.codes.polarity(entry.value, old).ok_or(9u32)?,
             _ => entry.value,
         };
         Ok(Burn { row, bits })
@@ -107,11 +109,7 @@ impl Model {
         if self.has(Fault::PlaceAtLimit) && limit == Some(pulses) {
             place = place.min(last);
         }
-        Answer {
-            place,
-            pulses,
-            ..Answer::default()
-        }
+        Answer::burnt(place, pulses)
     }
 
     /// The entries of a job, or the refusals that name no entry: 1, 10, 11.
@@ -146,6 +144,8 @@ impl Model {
 
 /// How many leading entries have all their bits standing.
 fn standing(rows: &[u32], burns: &[Burn]) -> u32 {
-    let stands = |burn: &&Burn| (0..24).all(|place| !bit(burn.bits, place) || bit(rows[burn.row], place));
-    burns.iter().take_while(stands).count() as u32
+    burns
+        .iter()
+        .take_while(|burn| within(burn.bits, rows[burn.row]))
+        .count() as u32
 }

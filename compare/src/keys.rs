@@ -1,8 +1,8 @@
 //! Access keys: where they lie, how they are latched, when one matches, and what that does to a page.
 
-use crate::code::bit;
+use crate::code::Codes;
 use crate::fault::Fault;
-use crate::model::Model;
+use crate::row::bit;
 use crate::shape::{Key, State};
 
 const KEY_ROWS: u32 = 0xf48;
@@ -35,57 +35,54 @@ pub fn words(bytes: &[u8]) -> [u16; 8] {
     words
 }
 
-impl Model {
-    /// Latches key k. A row that does not decode leaves word 0 and a key that is not whole.
-    pub fn latch_key(&self, rows: &[u32], k: u32) -> Key {
-        let mut key = Key {
-            words: [0; 8],
-            valid: false,
-            whole: true,
-        };
-        for i in 0..8 {
-            match self.decode(rows[first_row(k) as usize + i]) {
-                Some(near) => key.words[i] = near.value,
-                None => key.whole = false,
-            }
+/// Latches key k. A row that does not decode leaves word 0 and a key that is not whole.
+pub fn latch_key(codes: &Codes, rows: &[u32], k: u32) -> Key {
+    let mut key = Key {
+        whole: true,
+        ..Key::default()
+    };
+    for i in 0..8 {
+        match codes.decode(rows[first_row(k) as usize + i]) {
+            Some(near) => key.words[i] = near.value,
+            None => key.whole = false,
         }
-        let flag = rows[flag_row(k) as usize];
-        key.valid = [0, 8, 16].iter().filter(|place| bit(flag, **place)).count() >= 2;
-        key
     }
+    let flag = rows[flag_row(k) as usize];
+    key.valid = [0, 8, 16].iter().filter(|place| bit(flag, **place)).count() >= 2;
+    key
+}
 
-    /// A latched key index; above 7 counts as 7.
-    fn index(&self, latched: u8) -> u8 {
-        if self.has(Fault::IndexWraps) {
-            return latched & 7;
-        }
-        latched.min(7)
+/// A latched key index; above 7 counts as 7.
+fn index(fault: Option<Fault>, latched: u8) -> u8 {
+    if fault == Some(Fault::IndexWraps) {
+        return latched & 7;
     }
+    latched.min(7)
+}
 
-    /// Whether the key of an index matches the entered one.
-    fn matches(&self, state: &State, index: u8) -> bool {
-        if !(1..=6).contains(&index) {
-            return false;
-        }
-        let key = &state.keys[usize::from(index) - 1];
-        let whole = key.whole || self.has(Fault::PartialKey);
-        let given = state.entered.iter().any(|word| *word != 0) || self.has(Fault::ZeroKey);
-        given && key.valid && whole && key.words == state.entered
+/// Whether the key of an index matches the entered one.
+fn matches(fault: Option<Fault>, state: &State, index: u8) -> bool {
+    if !(1..=6).contains(&index) {
+        return false;
     }
+    let key = &state.keys[usize::from(index) - 1];
+    let whole = key.whole || fault == Some(Fault::PartialKey);
+    let given = state.entered.iter().any(|word| *word != 0) || fault == Some(Fault::ZeroKey);
+    given && key.valid && whole && key.words == state.entered
+}
 
-    /// The key level of a page, case by case as document 01 lists them.
-    #[allow(clippy::if_same_then_else)]
-    pub fn key_level(&self, state: &State, page: usize) -> u32 {
-        let write = self.index(state.writekey[page]);
-        let read = self.index(state.readkey[page]);
-        if write == 0 && read == 0 {
-            0
-        } else if self.matches(state, write) {
-            0
-        } else if self.matches(state, read) {
-            u32::from(!(self.has(Fault::ReadKeyLevel0) && write == 0))
-        } else {
-            u32::from(state.nokey[page]) + 1
-        }
+/// The key level of a page, case by case as document 01 lists them.
+#[allow(clippy::if_same_then_else)]
+pub fn key_level(fault: Option<Fault>, state: &State, page: usize) -> u32 {
+    let write = index(fault, state.writekey[page]);
+    let read = index(fault, state.readkey[page]);
+    if write == 0 && read == 0 {
+        0
+    } else if matches(fault, state, write) {
+        0
+    } else if matches(fault, state, read) {
+        u32::from(!(fault == Some(Fault::ReadKeyLevel0) && write == 0))
+    } else {
+        u32::from(state.nokey[page]) + 1
     }
 }

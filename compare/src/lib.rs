@@ -1,19 +1,30 @@
 //! A second reading of document 01, and the means to compare it with the library.
 //!
-//! The model is in `model` and `calls`, with its subjects in `code`, `locks`, `keys` and `jobs`. The library is in
-//! `face`, behind the child process of `driver` and the bytes of `wire`.
+//! `call` has the list of the calls and `shape` the fields of what goes into them and comes back.
+//! The model goes in one line, from the row up: `row`, `code`, `locks`, `keys`, `permission`, `model`, `access`,
+//! `latches`, `jobs`, `calls`. Each uses only those before it, and what has no rule in it; `tests/line.rs` sees to it.
+//! The library is in `face`, behind the child process of `driver`.
+//! `plain` is for timings alone, and is not there when the comparison is built.
 //! Everything else draws calls, makes them on both sides and compares what comes back.
 
+pub mod call;
+pub mod part;
 pub mod shape;
 
+pub mod access;
 pub mod calls;
 pub mod code;
 pub mod fault;
 pub mod jobs;
 pub mod keys;
+pub mod ladder;
+pub mod latches;
 pub mod locks;
 pub mod model;
+pub mod permission;
+pub mod row;
 
+#[cfg(any(feature = "timings", feature = "self-test"))]
 pub mod plain;
 
 #[cfg(not(feature = "self-test"))]
@@ -23,12 +34,9 @@ pub mod face;
 #[cfg(feature = "self-test")]
 #[path = "selftest.rs"]
 pub mod face;
-#[cfg(not(feature = "self-test"))]
-pub mod wire;
 
 pub mod arguments;
 pub mod bench;
-pub mod call;
 pub mod every;
 pub mod images;
 pub mod jobfiles;

@@ -1,9 +1,8 @@
-//! Pages, lock words, levels and permission.
+//! Pages, lock words and the levels that they give.
 
-use crate::code::bit;
 use crate::fault::Fault;
-use crate::model::Model;
-use crate::shape::{State, LOCK_ROWS, NONSECURE, SECURE};
+use crate::row::bit;
+use crate::shape::{State, LOCK_ROWS, SECURE};
 
 /// The page whose lock word guards a row. Lock words guard themselves.
 pub fn owner(row: u32) -> usize {
@@ -47,46 +46,14 @@ pub fn latch(rows: &[u32], page: usize, state: &mut State) {
     state.nonsecure[page] = field(high >> 2);
 }
 
-impl Model {
-    /// The level of a domain at a page; above 2 counts as 2.
-    pub fn level(&self, state: &State, domain: u32, page: usize) -> u32 {
-        let latched = match domain {
-            SECURE => state.secure[page],
-            _ => state.nonsecure[page],
-        };
-        if self.has(Fault::LevelWraps) {
-            return u32::from(field(u32::from(latched)));
-        }
-        u32::from(latched).min(2)
+/// The level of a domain at a page; above 2 counts as 2.
+pub fn level(fault: Option<Fault>, state: &State, domain: u32, page: usize) -> u32 {
+    let latched = match domain {
+        SECURE => state.secure[page],
+        _ => state.nonsecure[page],
+    };
+    if fault == Some(Fault::LevelWraps) {
+        return u32::from(field(u32::from(latched)));
     }
-
-    /// The key level of a row's page, or of a lock row's own lock word.
-    fn key_level_of_row(&self, state: &State, row: u32) -> u32 {
-        if self.has(Fault::LockRowPage) {
-            return self.key_level(state, (row / 64) as usize);
-        }
-        self.key_level(state, owner(row))
-    }
-
-    /// Whether the caller may read the row.
-    pub fn may_read(&self, state: &State, caller: u32, row: u32) -> bool {
-        if row >= LOCK_ROWS && !self.has(Fault::LockRowsHidden) {
-            return true;
-        }
-        let own = self.level(state, caller, owner(row));
-        own.max(self.key_level_of_row(state, row)) <= 1
-    }
-
-    /// Whether the row may be written for the caller.
-    pub fn may_write(&self, state: &State, caller: u32, row: u32) -> bool {
-        let page = owner(row);
-        let secure = self.level(state, SECURE, page);
-        let nonsecure = self.level(state, NONSECURE, page);
-        let key = self.key_level_of_row(state, row);
-        match caller {
-            SECURE => secure == 0 && key == 0,
-            _ if self.has(Fault::NonsecureOwnLock) => nonsecure == 0 && key == 0,
-            _ => nonsecure == 0 && secure == 0 && key == 0,
-        }
-    }
+    u32::from(latched).min(2)
 }

@@ -2,14 +2,14 @@
 
 use crate::arguments;
 use crate::bench::{Bench, Difference};
-use crate::call::Call;
+use crate::call::{Call, Chip};
 use crate::code::Codes;
 use crate::images::{too_large, Image};
 use crate::jobfiles;
 use crate::locks::owner;
 use crate::random::Random;
 use crate::sequences;
-use crate::shape::{Chip, State, ROWS};
+use crate::shape::{State, ROWS};
 use crate::states;
 
 /// How many calls one image is met by.
@@ -48,7 +48,7 @@ fn episode(
     };
     for turn in 0..calls {
         let call = match natural && turn == 0 {
-            true => Call::Reset,
+            true => Call::Reset {},
             false => draw(random, bench, &image, codes, sound),
         };
         if let Some((first, count)) = call.rows() {
@@ -84,12 +84,12 @@ fn stir(random: &mut Random, bench: &mut Bench, image: &Image, codes: &Codes, na
     }
 }
 
-/// Draws a call; those that cost most come up least.
+/// Draws a call; those that cost most come up least. A call that is missing here is one that the tally finds missing.
 fn draw(random: &mut Random, bench: &mut Bench, image: &Image, codes: &Codes, sound: &dyn Chip) -> Call {
     let caller = arguments::caller(random);
     let row = arguments::row(random, image);
     match random.below(100) {
-        0 | 1 => Call::Reset,
+        0 | 1 => Call::Reset {},
         2..=15 => Call::ReadRaw { caller, row },
         16..=33 => Call::ReadEcc { caller, row },
         34..=47 => Call::ReadVote {
@@ -142,7 +142,8 @@ fn job(random: &mut Random, bench: &mut Bench, image: &Image, codes: &Codes, sou
         return Call::RunJob { job };
     }
     let mut rows = bench.rows()[..ROWS].to_vec();
-    let whole = sound.run_job(&mut rows, bench.state, &job).answer.pulses;
+    let uncut = Call::RunJob { job: job.clone() };
+    let whole = sound.make(&uncut, &mut rows, bench.state).answer.pulses;
     let limit = sequences::limit(random, whole);
-    Call::Rehearse { job, limit }
+    Call::Rehearse { limit, job }
 }

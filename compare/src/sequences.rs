@@ -35,8 +35,8 @@ pub fn cut(random: &mut Random, bench: &mut Bench, codes: &Codes) -> Result<(), 
     for _ in 0..1 + random.below(4) {
         let limit = limit(random, left);
         let part = bench.call(&Call::Rehearse {
-            job: job.clone(),
             limit,
+            job: job.clone(),
         })?;
         agree(part.number == uncut.number, &job, "a cut gives the uncut job's number")?;
         agree(
@@ -74,7 +74,7 @@ pub fn cut(random: &mut Random, bench: &mut Bench, codes: &Codes) -> Result<(), 
 
 /// Reset, then the key.
 fn begin(bench: &mut Bench, key: &[u8]) -> Result<(), Difference> {
-    bench.call(&Call::Reset)?;
+    bench.call(&Call::Reset {})?;
     bench.call(&Call::EnterKey {
         caller: 0,
         key: key.to_vec(),

@@ -1,4 +1,6 @@
-//! The shapes that cross the interface, and the one trait that the library and the model both offer.
+//! The shapes that cross the interface. What their fields are is written here and nowhere else.
+
+use crate::part::{shape, Part};
 
 /// How many rows a chip has.
 pub const ROWS: usize = 4096;
@@ -7,19 +9,23 @@ pub const LARGEST: u32 = 0xff_ffff;
 /// The first row that holds a lock word.
 pub const LOCK_ROWS: u32 = 0xf80;
 
+/// The callers, which are the domains of the locks too.
 pub const SECURE: u32 = 0;
 pub const NONSECURE: u32 = 1;
+/// How many callers there are, and how many domains.
+pub const CALLERS: u32 = 2;
+pub const DOMAINS: u32 = 2;
 
-/// What every call answers. The condition is 0 for clean and 1 for repaired; the bit is 0 where clean.
-#[repr(C)]
-#[derive(Clone, Copy, Debug, Default, PartialEq, Eq)]
-pub struct Answer {
-    pub number: u32,
-    pub value: u32,
-    pub condition: u32,
-    pub bit: u32,
-    pub place: u32,
-    pub pulses: u32,
+shape! {
+    /// What every call answers. The condition is 0 for clean and 1 for repaired; the bit is 0 where clean.
+    Answer {
+        number: u32,
+        value: u32,
+        condition: u32,
+        bit: u32,
+        place: u32,
+        pulses: u32,
+    }
 }
 
 impl Answer {
@@ -38,64 +44,60 @@ impl Answer {
             ..Answer::default()
         }
     }
+
+    /// Done, with the place and the pulses of a write, a job or a rehearsal.
+    pub fn burnt(place: u32, pulses: u32) -> Answer {
+        Answer {
+            place,
+            pulses,
+            ..Answer::default()
+        }
+    }
 }
 
-/// A key as latched: its words, its valid flag, and whether all eight rows decoded.
-#[repr(C)]
-#[derive(Clone, Copy, Debug, Default, PartialEq, Eq)]
-pub struct Key {
-    pub words: [u16; 8],
-    pub valid: bool,
-    pub whole: bool,
+shape! {
+    /// A key as latched: its words, its valid flag, and whether all eight rows decoded.
+    Key {
+        words: [u16; 8],
+        valid: bool,
+        whole: bool,
+    }
 }
 
-/// What the hardware holds between resets.
-#[repr(C)]
-#[derive(Clone, Copy, Debug, PartialEq, Eq)]
-pub struct State {
-    pub secure: [u8; 64],
-    pub nonsecure: [u8; 64],
-    pub writekey: [u8; 64],
-    pub readkey: [u8; 64],
-    pub nokey: [bool; 64],
-    pub keys: [Key; 6],
-    pub entered: [u16; 8],
+shape! {
+    /// What the hardware holds between resets. Every state begins as the blank one, or comes from the library.
+    State {
+        secure: [u8; 64],
+        nonsecure: [u8; 64],
+        writekey: [u8; 64],
+        readkey: [u8; 64],
+        nokey: [bool; 64],
+        keys: [Key; 6],
+        entered: [u16; 8],
+    }
 }
 
 impl State {
     /// No lock, no key, nothing entered.
     pub fn blank() -> State {
-        State {
-            secure: [0; 64],
-            nonsecure: [0; 64],
-            writekey: [0; 64],
-            readkey: [0; 64],
-            nokey: [false; 64],
-            keys: [Key::default(); 6],
-            entered: [0; 8],
-        }
+        State::default()
     }
 }
 
 /// The answer of a call that may change the state, and the state afterwards.
-#[repr(C)]
 #[derive(Clone, Copy, Debug, PartialEq, Eq)]
 pub struct Outcome {
     pub answer: Answer,
     pub state: State,
 }
 
-/// The eleven calls.
-pub trait Chip {
-    fn reset(&self, rows: &[u32], state: State) -> Outcome;
-    fn read_raw(&self, rows: &[u32], state: State, caller: u32, row: u32) -> Answer;
-    fn read_ecc(&self, rows: &[u32], state: State, caller: u32, row: u32) -> Answer;
-    fn read_vote(&self, rows: &[u32], state: State, caller: u32, row: u32, count: u32) -> Answer;
-    fn write_raw(&self, rows: &mut [u32], state: State, caller: u32, row: u32, value: u32) -> Outcome;
-    fn write_ecc(&self, rows: &mut [u32], state: State, caller: u32, row: u32, value: u32) -> Outcome;
-    fn advance(&self, state: State, caller: u32, domain: u32, page: u32, level: u32) -> Outcome;
-    fn show(&self, state: State, caller: u32, domain: u32, page: u32) -> Answer;
-    fn enter_key(&self, state: State, caller: u32, key: &[u8]) -> Outcome;
-    fn run_job(&self, rows: &mut [u32], state: State, job: &[u8]) -> Outcome;
-    fn rehearse(&self, rows: &mut [u32], state: State, job: &[u8], limit: u32) -> Outcome;
+impl Outcome {
+    /// The first field in which the library's outcome differs from the model's.
+    pub fn differs(&self, ours: &Outcome) -> Option<String> {
+        if self == ours {
+            return None;
+        }
+        let answer = self.answer.differs(&ours.answer, "answer");
+        answer.or_else(|| self.state.differs(&ours.state, "state"))
+    }
 }

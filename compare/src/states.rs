@@ -24,17 +24,31 @@ fn key(random: &mut Random, image: &Image) -> Key {
     }
 }
 
+/// One page's locks and key settings. Every field is named, so that the compiler asks here for a new one.
+fn set_page(random: &mut Random, state: &mut State, page: usize) {
+    let State {
+        secure,
+        nonsecure,
+        writekey,
+        readkey,
+        nokey,
+        keys: _,
+        entered: _,
+    } = state;
+    secure[page] = level(random);
+    nonsecure[page] = level(random);
+    writekey[page] = index(random);
+    readkey[page] = index(random);
+    nokey[page] = random.coin();
+}
+
 /// A whole state made by hand, with few pages locked or many.
 pub fn by_hand(random: &mut Random, image: &Image) -> State {
     let mut state = State::blank();
     let share = random.pick(&[1, 1, 2, 4, 8]);
     for page in 0..64 {
         if random.below(8) < share {
-            state.secure[page] = level(random);
-            state.nonsecure[page] = level(random);
-            state.writekey[page] = index(random);
-            state.readkey[page] = index(random);
-            state.nokey[page] = random.coin();
+            set_page(random, &mut state, page);
         }
     }
     for place in &mut state.keys {
@@ -46,11 +60,7 @@ pub fn by_hand(random: &mut Random, image: &Image) -> State {
 
 /// Sets one page's locks and key settings anew, and now and then the key behind them.
 pub fn change_page(random: &mut Random, image: &Image, state: &mut State, page: usize) {
-    state.secure[page] = level(random);
-    state.nonsecure[page] = level(random);
-    state.writekey[page] = index(random);
-    state.readkey[page] = index(random);
-    state.nokey[page] = random.coin();
+    set_page(random, state, page);
     if random.coin() {
         state.entered = random.pick(&image.keys);
     }

@@ -1,6 +1,6 @@
 //! How often each call gave each number, as a table.
 
-use crate::call::CALLS;
+use crate::call::{Kind, CALLS};
 
 /// The numbers run from 0 to 11.
 const NUMBERS: usize = 12;
@@ -21,10 +21,10 @@ impl Tally {
 
     /// The first call and number that it can give but never gave.
     pub fn missing(&self) -> Option<(&'static str, u32)> {
-        for (counts, (name, numbers)) in self.counts.iter().zip(CALLS) {
-            for number in numbers {
+        for (counts, kind) in self.counts.iter().zip(CALLS) {
+            for number in kind.numbers {
                 if counts[*number as usize] == 0 {
-                    return Some((name, *number));
+                    return Some((kind.name, *number));
                 }
             }
         }
@@ -34,7 +34,7 @@ impl Tally {
     pub fn print(&self) {
         let heads: Vec<String> = (0..NUMBERS).map(|number| format!("{number:>8}")).collect();
         println!("{:<10}{}{:>10}", "call", heads.concat(), "all");
-        for (counts, (name, numbers)) in self.counts.iter().zip(CALLS) {
+        for (counts, Kind { name, numbers, .. }) in self.counts.iter().zip(CALLS) {
             let cells: Vec<String> = (0..NUMBERS)
                 .map(|number| match numbers.contains(&(number as u32)) {
                     true => format!("{:>8}", counts[number]),

@@ -1,9 +1,38 @@
-//! The plain rules against the model, on the comparison's own mix of calls: a time means nothing if the answer is another one.
+//! The timed rules against the model, on the comparison's own mix of calls: else a time would say nothing.
 
 use compare::bench::Bench;
+use compare::call::{Call, Chip};
 use compare::model::Model;
-use compare::plain::Plain;
+use compare::plain::{access, chip, jobs};
 use compare::run::run;
+use compare::shape::{Outcome, State};
+
+/// The timed rules as what makes calls.
+struct Plain;
+
+impl Chip for Plain {
+    fn make(&self, call: &Call, rows: &mut [u32], mut state: State) -> Outcome {
+        let answer = match *call {
+            Call::Reset {} => chip::reset(rows, &mut state),
+            Call::ReadRaw { caller, row } => access::read_raw(rows, &state, caller, row),
+            Call::ReadEcc { caller, row } => access::read_ecc(rows, &state, caller, row),
+            Call::ReadVote { caller, row, count } => access::read_vote(rows, &state, caller, row, count),
+            Call::WriteRaw { caller, row, value } => access::write_raw(rows, &state, caller, row, value),
+            Call::WriteEcc { caller, row, value } => access::write_ecc(rows, &state, caller, row, value),
+            Call::Advance {
+                caller,
+                domain,
+                page,
+                level,
+            } => chip::advance(&mut state, caller, domain, page, level),
+            Call::Show { caller, domain, page } => chip::show(&state, caller, domain, page),
+            Call::EnterKey { caller, ref key } => chip::enter_key(&mut state, caller, key),
+            Call::RunJob { ref job } => jobs::run_job(rows, &state, job),
+            Call::Rehearse { limit, ref job } => jobs::rehearse(rows, &state, job, limit),
+        };
+        Outcome { answer, state }
+    }
+}
 
 #[test]
 fn the_plain_rules_answer_as_the_model_does() {

@@ -1,7 +1,8 @@
 //! The model alone against document 01: its twelve worked rows, its two 'Run' lines, and what it says of any value.
 
+use compare::call::{Call, Chip};
 use compare::model::Model;
-use compare::shape::{Answer, Chip, State, LARGEST, ROWS};
+use compare::shape::{Answer, State, LARGEST, ROWS};
 
 const ROW: u32 = 0x0c0;
 const JOB: [u8; 13] = [
@@ -15,12 +16,18 @@ fn chip(entry: u32) -> Vec<u32> {
 }
 
 fn read(model: &Model, entry: u32) -> Answer {
-    model.read_ecc(&chip(entry), State::blank(), 0, ROW)
+    let call = Call::ReadEcc { caller: 0, row: ROW };
+    model.make(&call, &mut chip(entry), State::blank()).answer
 }
 
 fn write(model: &Model, value: u32, entry: u32) -> (Answer, u32) {
     let mut rows = chip(entry);
-    let outcome = model.write_ecc(&mut rows, State::blank(), 0, ROW, value);
+    let call = Call::WriteEcc {
+        caller: 0,
+        row: ROW,
+        value,
+    };
+    let outcome = model.make(&call, &mut rows, State::blank());
     assert_eq!(outcome.state, State::blank());
     (outcome.answer, rows[ROW as usize])
 }
@@ -37,11 +44,8 @@ fn repaired(value: u32, bit: u32) -> Answer {
     }
 }
 
-fn pulses(pulses: u32) -> Answer {
-    Answer {
-        pulses,
-        ..Answer::default()
-    }
+fn whole_job() -> Call {
+    Call::RunJob { job: JOB.to_vec() }
 }
 
 #[test]
@@ -56,7 +60,7 @@ fn the_twelve_worked_rows() {
     assert_eq!(read(&model, 0x160000), Answer::refused(8));
     assert_eq!(read(&model, 0xdcfffe), clean(1));
     assert_eq!(read(&model, 0x9cfffe), Answer::refused(8));
-    assert_eq!(write(&model, 1, 0x000002), (pulses(19), 0xdcfffe));
+    assert_eq!(write(&model, 1, 0x000002), (Answer::burnt(0, 19), 0xdcfffe));
     assert_eq!(write(&model, 1, 0x000003), (Answer::refused(9), 0x000003));
     assert_eq!(write(&model, 3, 0x230001), (Answer::refused(9), 0x230001));
 }
@@ -65,15 +69,8 @@ fn the_twelve_worked_rows() {
 fn the_job_on_a_blank_page_makes_four_pulses() {
     let model = Model::sound();
     let mut rows = chip(0);
-    let outcome = model.run_job(&mut rows, State::blank(), &JOB);
-    assert_eq!(
-        outcome.answer,
-        Answer {
-            place: 1,
-            pulses: 4,
-            ..Answer::default()
-        }
-    );
+    let outcome = model.make(&whole_job(), &mut rows, State::blank());
+    assert_eq!(outcome.answer, Answer::burnt(1, 4));
     assert_eq!(outcome.state, State::blank());
     assert_eq!(rows, chip(0x230001));
 }
@@ -82,27 +79,17 @@ fn the_job_on_a_blank_page_makes_four_pulses() {
 fn cut_after_two_pulses_and_run_again() {
     let model = Model::sound();
     let mut rows = chip(0);
-    let cut = model.rehearse(&mut rows, State::blank(), &JOB, 2);
-    assert_eq!(
-        cut.answer,
-        Answer {
-            place: 0,
-            pulses: 2,
-            ..Answer::default()
-        }
-    );
+    let rehearsal = Call::Rehearse {
+        limit: 2,
+        job: JOB.to_vec(),
+    };
+    let cut = model.make(&rehearsal, &mut rows, State::blank());
+    assert_eq!(cut.answer, Answer::burnt(0, 2));
     assert_eq!(rows, chip(0x010001));
-    let state = model.reset(&rows, cut.state);
-    assert_eq!(state.answer, Answer::default());
-    let full = model.run_job(&mut rows, state.state, &JOB);
-    assert_eq!(
-        full.answer,
-        Answer {
-            place: 1,
-            pulses: 2,
-            ..Answer::default()
-        }
-    );
+    let reset = model.make(&Call::Reset {}, &mut rows, cut.state);
+    assert_eq!(reset.answer, Answer::default());
+    let full = model.make(&whole_job(), &mut rows, reset.state);
+    assert_eq!(full.answer, Answer::burnt(1, 2));
     assert_eq!(rows, chip(0x230001));
 }
 
@@ -137,18 +124,24 @@ fn one_flip_is_corrected_and_a_lost_polarity_bit_is_refused() {
         let inverted = plain ^ LARGEST;
         for row in [plain, inverted] {
             assert_eq!(
-                model.decode(row).map(|near| (u32::from(near.value), near.repaired)),
+                model
+                    .codes
+                    .decode(row)
+                    .map(|near| (u32::from(near.value), near.repaired)),
                 Some((value, None))
             );
             for place in 0..22u8 {
-                let near = model.decode(row ^ 1 << place).expect("one flip is corrected");
+                let near = model.codes.decode(row ^ 1 << place).expect("one flip is corrected");
                 assert_eq!((u32::from(near.value), near.repaired), (value, Some(place)));
             }
         }
         for place in [22, 23] {
-            let near = model.decode(plain ^ 1 << place).expect("a plain row takes no harm");
+            let near = model
+                .codes
+                .decode(plain ^ 1 << place)
+                .expect("a plain row takes no harm");
             assert_eq!((u32::from(near.value), near.repaired), (value, None));
-            assert_eq!(model.decode(inverted ^ 1 << place), None);
+            assert_eq!(model.codes.decode(inverted ^ 1 << place), None);
         }
     }
 }
@@ -157,12 +150,12 @@ fn one_flip_is_corrected_and_a_lost_polarity_bit_is_refused() {
 fn at_most_one_bit_beforehand_is_never_refused() {
     let model = Model::sound();
     for value in 0..=0xffff {
-        assert!(model.polarity(value, 0).is_some());
+        assert!(model.codes.polarity(value, 0).is_some());
         for place in 0..24 {
             let old = 1 << place;
-            let new = model.polarity(value, old).expect("one of the two fits");
+            let new = model.codes.polarity(value, old).expect("one of the two fits");
             assert_eq!(new & old, old);
-            assert_eq!(model.decode(new).map(|near| u32::from(near.value)), Some(value));
+            assert_eq!(model.codes.decode(new).map(|near| u32::from(near.value)), Some(value));
         }
     }
 }

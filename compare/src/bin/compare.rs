@@ -78,14 +78,14 @@ fn compare(wish: &Wish, library: &Library, sound: &Model) -> Result<(), String> 
 fn faults(wish: &Wish, library: &Library, sound: &Model) -> Result<(), String> {
     let mut missed = Vec::new();
     for (fault, name, what) in FAULTS {
-        let model = Model::faulty(fault);
+        let model = Model::faulty(*fault);
         let mut bench = Bench::new(library, &model);
         let found = run(&mut bench, &sound.codes, sound, wish.calls, wish.seed).is_err();
         match found {
             true => println!("{name:<20} found after {:>7} calls   {what}", bench.tally.calls),
             false => {
                 println!("{name:<20} not found in {:>5} calls   {what}", bench.tally.calls);
-                missed.push(name);
+                missed.push(*name);
             }
         }
     }

@@ -1,7 +1,7 @@
-//! The calls on a row or a vote group.
+//! For timings alone: the calls on a row or a vote group.
 
 use crate::plain::chip::{hidden, may_read, may_write};
-use crate::plain::{answer, burnt, refuse_if, row as one, Refusal};
+use crate::plain::{answer, refuse_if, row as one, Refusal};
 use crate::shape::{Answer, State, LARGEST, LOCK_ROWS, ROWS};
 
 /// What comes before a row is looked at.
@@ -59,7 +59,7 @@ fn raw_written(rows: &mut [u32], state: &State, caller: u32, row: u32, value: u3
     asked(rows, caller, row, false, value > LARGEST)?;
     let old = entry(rows, state, may_write(state, caller, row), row)?;
     rows[row as usize] = old | value;
-    Ok(burnt(0, one::pulses(old, value)))
+    Ok(Answer::burnt(0, one::pulses(old, value)))
 }
 
 pub fn write_ecc(rows: &mut [u32], state: &State, caller: u32, row: u32, value: u32) -> Answer {
@@ -71,5 +71,5 @@ fn ecc_written(rows: &mut [u32], state: &State, caller: u32, row: u32, value: u3
     let old = entry(rows, state, may_write(state, caller, row), row)?;
     let new = one::written(old, value as u16)?;
     rows[row as usize] = new;
-    Ok(burnt(0, one::pulses(old, new)))
+    Ok(Answer::burnt(0, one::pulses(old, new)))
 }

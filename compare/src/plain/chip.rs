@@ -1,4 +1,4 @@
-//! The state: reset, locks, keys, and who may read and write a row.
+//! For timings alone: the state, with reset, locks, keys, and who may read and write a row.
 
 use crate::plain::{answer, refuse_if, row, Refusal};
 use crate::shape::{Answer, Key, State, LARGEST, LOCK_ROWS, NONSECURE, ROWS, SECURE};

@@ -1,7 +1,7 @@
-//! Jobs: judged whole, then burnt, to the end or to a limit.
+//! For timings alone: jobs, judged whole, then burnt, to the end or to a limit.
 
 use crate::plain::chip::may_write;
-use crate::plain::{answer, burnt, refuse_if, row as one, Refusal};
+use crate::plain::{answer, refuse_if, row as one, Refusal};
 use crate::shape::{Answer, State, LARGEST, ROWS, SECURE};
 
 const HEAD: usize = 7;
@@ -97,13 +97,13 @@ fn burn(rows: &mut [u32], job: &[u8], limit: u32) -> Result<Answer, Refusal> {
         let pulses = one::pulses(*row, new);
         if left < pulses {
             *row = burnt_upward(*row, new, left);
-            return Ok(burnt(place, limit));
+            return Ok(Answer::burnt(place, limit));
         }
         *row = new;
         left -= pulses;
         place += 1;
     }
-    Ok(burnt(place, limit - left))
+    Ok(Answer::burnt(place, limit - left))
 }
 
 pub fn rehearse(rows: &mut [u32], state: &State, job: &[u8], limit: u32) -> Answer {

@@ -1,8 +1,10 @@
-//! The same rules written plainly in Rust, with references: what the library's times are measured against.
+//! For timings alone: the same rules written plainly in Rust, with references, for the library's times to be measured
+//! against. No part of the model or of the comparison uses them, and they are no third reading of document 01: all that
+//! is asked of them is that they answer as the model does, and `tests/plain.rs` sees to it.
 //!
 //! A state is lent, and changed in place. A refusal is the `Err` of a `Result`, so that each ladder is a row of tests.
 
-use crate::shape::{Answer, Chip, Outcome, State};
+use crate::shape::Answer;
 
 pub mod access;
 pub mod chip;
@@ -23,69 +25,4 @@ pub fn refuse_if(it_is_so: bool, number: Refusal) -> Result<(), Refusal> {
 /// What a call answers, done or refused.
 pub fn answer(result: Result<Answer, Refusal>) -> Answer {
     result.unwrap_or_else(Answer::refused)
-}
-
-/// A write, a job or a rehearsal that is done.
-pub fn burnt(place: u32, pulses: u32) -> Answer {
-    Answer {
-        place,
-        pulses,
-        ..Answer::default()
-    }
-}
-
-/// The plain rules in the shape of the other readings, so that they can be compared with them.
-pub struct Plain;
-
-impl Chip for Plain {
-    fn reset(&self, rows: &[u32], mut state: State) -> Outcome {
-        let answer = chip::reset(rows, &mut state);
-        Outcome { answer, state }
-    }
-
-    fn read_raw(&self, rows: &[u32], state: State, caller: u32, row: u32) -> Answer {
-        access::read_raw(rows, &state, caller, row)
-    }
-
-    fn read_ecc(&self, rows: &[u32], state: State, caller: u32, row: u32) -> Answer {
-        access::read_ecc(rows, &state, caller, row)
-    }
-
-    fn read_vote(&self, rows: &[u32], state: State, caller: u32, row: u32, count: u32) -> Answer {
-        access::read_vote(rows, &state, caller, row, count)
-    }
-
-    fn write_raw(&self, rows: &mut [u32], state: State, caller: u32, row: u32, value: u32) -> Outcome {
-        let answer = access::write_raw(rows, &state, caller, row, value);
-        Outcome { answer, state }
-    }
-
-    fn write_ecc(&self, rows: &mut [u32], state: State, caller: u32, row: u32, value: u32) -> Outcome {
-        let answer = access::write_ecc(rows, &state, caller, row, value);
-        Outcome { answer, state }
-    }
-
-    fn advance(&self, mut state: State, caller: u32, domain: u32, page: u32, level: u32) -> Outcome {
-        let answer = chip::advance(&mut state, caller, domain, page, level);
-        Outcome { answer, state }
-    }
-
-    fn show(&self, state: State, caller: u32, domain: u32, page: u32) -> Answer {
-        chip::show(&state, caller, domain, page)
-    }
-
-    fn enter_key(&self, mut state: State, caller: u32, key: &[u8]) -> Outcome {
-        let answer = chip::enter_key(&mut state, caller, key);
-        Outcome { answer, state }
-    }
-
-    fn run_job(&self, rows: &mut [u32], state: State, job: &[u8]) -> Outcome {
-        let answer = jobs::run_job(rows, &state, job);
-        Outcome { answer, state }
-    }
-
-    fn rehearse(&self, rows: &mut [u32], state: State, job: &[u8], limit: u32) -> Outcome {
-        let answer = jobs::rehearse(rows, &state, job, limit);
-        Outcome { answer, state }
-    }
 }

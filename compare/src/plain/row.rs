@@ -1,4 +1,4 @@
-//! One row: its code, reading it, voting, and what a write leaves.
+//! For timings alone: one row, with its code, reading it, voting, and what a write leaves.
 
 use crate::plain::Refusal;
 use crate::shape::{Answer, LARGEST};

@@ -1,43 +1,56 @@
--- What an answer shows of the number that it was made by.
+-- A row that was read as it is, read on by ECC: what the first answer shows of its number, and that the row's own 8 is the last rung.
 -- Assumes nothing.
-use mathlib.Core.Path.{_≡_, sym, ap, _∙_}
+use mathlib.Core.Bool.{Bool, true, false}
+use mathlib.Core.List.{List, [], _∷_, _++_}
 use mathlib.Core.Logic.{_⊎_, inl, inr}
-use Prim.Native.Nat.{ℕ, _<_}
-use native.Mathlib.Nat.{eq-zero-or-pos}
-use native.Mathlib.Omega.{arith}
-use borrow.Author.Tests.{eq-eqb, ne-eqb}
-use Rattle.row.specs.Answers.{found, refused}
-use Rattle.row.specs.Reading.{readRow}
+use mathlib.Core.Path.{_≡_, refl, sym, ap, _∙_}
+use Prim.Native.Nat.{ℕ}
+use borrow.Author.Tests.{eq-eqb, ne-eqb, eqb-false}
+use lib.Dec.{T, eqb}
+use Rattle.row.specs.Answers.{refused, told, answered}
+use Rattle.row.specs.Reading.{readRow, undecodable}
+use Rattle.row.specs.Rungs.{Rung, _when_, firstOf, orElse}
 use Rattle.row.specs.declared.answer.Answer.{Answer}
-use Rattle.row.specs.declared.answer.Condition.the-variants.{Clean}
-use Rattle.access.specs.Judging.{answered}
+use Rattle.row.proofs.Choices.{own-number}
+use Rattle.row.proofs.Ladders.{refusing, then-rungs, read-or-8, eight}
 
-is-done : (number : ℕ) (done : Answer) → number ≡ 0 → answered number done ≡ done
-is-done number done e = rw (eq-eqb number 0 e)
+module _ (rungs : List Rung) (some : T (refusing rungs)) (held : ℕ) where
+  abbrev number : ℕ
+  number = firstOf rungs
 
-is-refusal : (number : ℕ) (done : Answer) → (number ≡ 0 → ⊥) → answered number done ≡ refused number
-is-refusal number done e = rw (ne-eqb number 0 e)
+  abbrev with-eight : ℕ
+  with-eight = firstOf (rungs ++ (8 when undecodable held ∷ []))
 
--- what is done has number 0, so the number of an answer is the one that it was made by
-number-shows : (number entry : ℕ) → answered number (found entry Clean) .number ≡ number
-number-shows number entry = go (eq-zero-or-pos number)
-  where
-    go : (number ≡ 0) ⊎ (0 < number) → answered number (found entry Clean) .number ≡ number
-    go (inl e) = ap (λ (a : Answer). a .number) (is-done number (found entry Clean) e) ∙ sym e
-    go (inr l) = ap (λ (a : Answer). a .number) (is-refusal number (found entry Clean) (λ e. omega arith))
+  two-steps : with-eight ≡ orElse number (readRow held .number)
+  two-steps = then-rungs rungs (8 when undecodable held ∷ []) some ∙ ap (orElse number) (sym (eight held))
 
-module _ (number entry : ℕ) (read : Answer) (e : read ≡ answered number (found entry Clean)) where
-  number-of : read .number ≡ number
-  number-of = ap (λ (a : Answer). a .number) e ∙ number-shows number entry
+  -- where the last rung has let a row by, it is read
+  pub read-done : with-eight ≡ 0 → readRow held .number ≡ 0
+  read-done e = go (eqb number 0) refl
+    where
+      go : (t : Bool) → eqb number 0 ≡ t → readRow held .number ≡ 0
+      go true none = sym (two-steps ∙ rw none) ∙ e
+      go false some = absurd (eqb-false number 0 some (sym (two-steps ∙ rw some) ∙ e))
 
-  -- a refusal is one whatever was to be done
-  pub refusal-stays : (done : Answer) → (read .number ≡ 0 → ⊥) → read ≡ answered number done
-  refusal-stays done h =
-      let refusal : number ≡ 0 → ⊥ = λ z. h (number-of ∙ z) in
-      e ∙ is-refusal number (found entry Clean) refusal ∙ sym (is-refusal number done refusal)
+  module _ (first : Answer) (e : first ≡ answered number (told held)) where
+    number-of : first .number ≡ number
+    number-of = ap (λ (a : Answer). a .number) e ∙ own-number (λ (a : Answer). a .number) number (told held) (refused number) refl refl
 
-  -- an entry that was read is read on by ECC
-  pub read-on : read .number ≡ 0 → readRow (read .value) ≡ answered number (readRow entry)
-  read-on h =
-      let done : number ≡ 0 = sym number-of ∙ h in
-      ap (λ (a : Answer). readRow (a .value)) (e ∙ is-done number (found entry Clean) done) ∙ sym (is-done number (readRow entry) done)
+    -- a refusal is one whatever was to be done
+    pub refusal-stays : (first .number ≡ 0 → ⊥) → first ≡ answered with-eight (readRow held)
+    refusal-stays h =
+        let other : eqb number 0 ≡ false = ne-eqb number 0 (λ z. h (number-of ∙ z)) in
+        let same : with-eight ≡ number = two-steps ∙ rw other in
+        e ∙ rw (same, other)
+
+    -- what was read is read on by ECC
+    pub read-on : first .number ≡ 0 → readRow (first .value) ≡ answered with-eight (readRow held)
+    read-on h =
+        let none : eqb number 0 ≡ true = eq-eqb number 0 (sym number-of ∙ h) in
+        let value : first .value ≡ held = ap (λ (a : Answer). a .value) e ∙ rw none in
+        let same : with-eight ≡ readRow held .number = two-steps ∙ rw none in
+        ap readRow value ∙ sym (ap (λ (n : ℕ). answered n (readRow held)) same ∙ own (read-or-8 held))
+      where
+        own : (readRow held .number ≡ 0) ⊎ (readRow held ≡ refused 8) → answered (readRow held .number) (readRow held) ≡ readRow held
+        own (inl done) = rw done
+        own (inr eight) = rw eight

@@ -1,28 +1,58 @@
--- No write changes the state: what it leaves is its answer beside the state that came in.
+-- What a write of one row leaves, by its answer and its rows: the state that came in is put beside the answer.
 -- Assumes nothing.
-use mathlib.Core.Path.{_≡_, refl, ap, _∙_}
+use mathlib.Core.Path.{_≡_, refl, sym, ap, _∙_}
 use mathlib.Core.Bool.{Bool, true, false}
 use mathlib.Core.List.{List}
 use Prim.Native.Nat.{ℕ}
+use borrow.Author.Tests.{eqb-true}
 use lib.Dec.{eqb}
+use lib.ListN.{set}
+use Rattle.row.specs.Answers.{answered, spent}
 use Rattle.row.specs.Choice.{if_then_else_}
+use Rattle.row.specs.Rungs.{orElse}
 use Rattle.row.specs.declared.answer.Answer.{Answer}
 use Rattle.row.specs.declared.writing.Written.{Written}
 use Rattle.chip.specs.declared.state.State.{State}
 use Rattle.chip.specs.declared.state.Outcome.{Outcome}
-use Rattle.access.specs.Writes.{Left, leaves}
+use Rattle.access.specs.Burning.{Left, burnt, kept, oneRow}
 
 abbrev beside : State → Answer → Outcome
 beside state answer = record { answer = answer; state = state }
 
--- of two outcomes that have the state beside their answers, so has the one that is chosen
-chosen : (done : Bool) (burnt kept : Left) (state : State)
-    → beside state (burnt .outcome .answer) ≡ burnt .outcome → beside state (kept .outcome .answer) ≡ kept .outcome
-    → beside state ((if done then burnt else kept) .outcome .answer) ≡ (if done then burnt else kept) .outcome
-chosen true burnt kept state of-burnt of-kept = of-burnt
-chosen false burnt kept state of-burnt of-kept = of-kept
+module _ (rows : List ℕ) (state : State) (row number : ℕ) (written : Written) where
+  made-answer : beside state (answered number (spent 0 (written .pulses))) ≡ oneRow number rows state row written .outcome
+  made-answer = go (eqb number 0) refl
+    where
+      go : (t : Bool) → eqb number 0 ≡ t
+          → beside state (answered number (spent 0 (written .pulses))) ≡ oneRow number rows state row written .outcome
+      go true e = rw e
+      go false e = rw e
 
-pub stays : (number : ℕ) (rows : List ℕ) (state : State) (row : ℕ) (written : Written) (answer : Answer)
-    → answer ≡ leaves number rows state row written .outcome .answer
-    → beside state answer ≡ leaves number rows state row written .outcome
-stays number rows state row written answer e = ap (beside state) e ∙ chosen (eqb number 0) _ _ state refl refl
+  made-rows : (if eqb number 0 then set rows row (written .row) else rows) ≡ oneRow number rows state row written .rows
+  made-rows = go (eqb number 0)
+    where
+      go : (t : Bool)
+          → (if t then set rows row (written .row) else rows)
+          ≡ (if t then burnt state (set rows row (written .row)) 0 (written .pulses) else kept state rows number 0) .rows
+      go true = refl
+      go false = refl
+
+-- what was burnt, and what the definition says: the same number, and where that is 0 the same written row
+pub leaves : (rows left : List ℕ) (state : State) (row number meant : ℕ) (written means : Written) (answer : Answer)
+    → answer ≡ answered (orElse number (written .number)) (spent 0 (written .pulses))
+    → left ≡ (if eqb (orElse number (written .number)) 0 then set rows row (written .row) else rows)
+    → (number ≡ 0 → written ≡ means) → orElse number (means .number) ≡ meant
+    → (beside state answer ≡ oneRow meant rows state row means .outcome) × (left ≡ oneRow meant rows state row means .rows)
+leaves rows left state row number meant written means answer of-answer of-rows same named = (
+  ap (beside state) of-answer ∙ made-answer rows state row (orElse number (written .number)) written
+      ∙ ap (λ (l : Left). l .outcome) whole,
+  of-rows ∙ made-rows rows state row (orElse number (written .number)) written ∙ ap (λ (l : Left). l .rows) whole,
+)
+  where
+    chosen : (t : Bool) → eqb number 0 ≡ t
+        → oneRow (orElse number (written .number)) rows state row written ≡ oneRow (orElse number (means .number)) rows state row means
+    chosen true e = ap (λ (w : Written). oneRow (orElse number (w .number)) rows state row w) (same (eqb-true number 0 e))
+    chosen false e = rw (e, e)
+
+    whole : oneRow (orElse number (written .number)) rows state row written ≡ oneRow meant rows state row means
+    whole = chosen (eqb number 0) refl ∙ ap (λ (n : ℕ). oneRow n rows state row means) named

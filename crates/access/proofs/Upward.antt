@@ -12,29 +12,42 @@ use lib.ListN.{length, getD, take, drop, set, length-drop}
 use lib.Seq.{take-suc, take-suc-set, getD-drop}
 use Rattle.chip.specs.Permission.{mayRead}
 use Rattle.chip.specs.declared.state.State.{State}
-use Rattle.access.specs.Judging.{judged, judgedUpward}
+use Rattle.row.specs.Rungs.{Rung, firstOf, orElse}
+use Rattle.row.proofs.Ladders.{refusing, then-rungs}
+use Rattle.access.specs.Judging.{rowRungs}
+use Rattle.access.specs.Votes.{groupRungs}
 
 module _ (rows : List ℕ) (state : State) (caller row count i : ℕ) (more : i < count) where
   one-more : count - i ≡ suc (count - (i + 1))
   one-more = omega arith
 
+  -- the next row's own rungs, and then those of the rows above it
+  next-rungs : firstOf (groupRungs rows state caller (row + i) (count - i))
+      ≡ orElse (firstOf (rowRungs rows state (mayRead state caller (row + i)) (row + i)))
+      (firstOf (groupRungs rows state caller (row + (i + 1)) (count - (i + 1))))
+  unfolding groupRungs rowRungs refusing
+  next-rungs =
+      rw one-more
+      (then-rungs (rowRungs rows state (mayRead state caller (row + i)) (row + i)) (groupRungs rows state caller (suc (row + i)) (count - (i + 1))) tt
+      ∙ ap (λ (at : ℕ). orElse (firstOf (rowRungs rows state (mayRead state caller (row + i)) (row + i)))
+      (firstOf (groupRungs rows state caller at (count - (i + 1))))) (omega arith))
+
   -- a row that answers 0 hands on to those above it
-  pub upward-next : judged rows state (mayRead state caller (row + i)) (row + i) ≡ 0
-      → judgedUpward rows state caller (row + i) (count - i) ≡ judgedUpward rows state caller (row + (i + 1)) (count - (i + 1))
-  unfolding judgedUpward
-  upward-next e =
-      rw (one-more, eq-eqb (judged rows state (mayRead state caller (row + i)) (row + i)) 0 e)
-      (ap (λ (at : ℕ). judgedUpward rows state caller at (count - (i + 1))) (omega arith))
+  pub upward-next : firstOf (rowRungs rows state (mayRead state caller (row + i)) (row + i)) ≡ 0
+      → firstOf (groupRungs rows state caller (row + i) (count - i))
+      ≡ firstOf (groupRungs rows state caller (row + (i + 1)) (count - (i + 1)))
+  upward-next e = next-rungs ∙ rw (eq-eqb (firstOf (rowRungs rows state (mayRead state caller (row + i)) (row + i))) 0 e)
 
   -- any other answers for all
-  pub upward-stops : (judged rows state (mayRead state caller (row + i)) (row + i) ≡ 0 → ⊥)
-      → judgedUpward rows state caller (row + i) (count - i) ≡ judged rows state (mayRead state caller (row + i)) (row + i)
-  unfolding judgedUpward
-  upward-stops e = rw (one-more, ne-eqb (judged rows state (mayRead state caller (row + i)) (row + i)) 0 e)
+  pub upward-stops : (firstOf (rowRungs rows state (mayRead state caller (row + i)) (row + i)) ≡ 0 → ⊥)
+      → firstOf (groupRungs rows state caller (row + i) (count - i))
+      ≡ firstOf (rowRungs rows state (mayRead state caller (row + i)) (row + i))
+  upward-stops e = next-rungs ∙ rw (ne-eqb (firstOf (rowRungs rows state (mayRead state caller (row + i)) (row + i))) 0 e)
 
 -- where no row is left, none was refused
-pub upward-end : (rows : List ℕ) (state : State) (caller row count i : ℕ) → i ≡ count → judgedUpward rows state caller (row + i) (count - i) ≡ 0
-unfolding judgedUpward
+pub upward-end : (rows : List ℕ) (state : State) (caller row count i : ℕ) → i ≡ count
+    → firstOf (groupRungs rows state caller (row + i) (count - i)) ≡ 0
+unfolding groupRungs
 upward-end rows state caller row count i e =
     let none : count - i ≡ 0 = omega arith in
     rw none

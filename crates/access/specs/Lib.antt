@@ -1,3 +1,5 @@
 pub mod Judging
 pub mod Reads
+pub mod Votes
+pub mod Burning
 pub mod Writes

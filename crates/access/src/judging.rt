@@ -1,12 +1,15 @@
-// What a row answers to a call before it is used (document 01, "The numbers we answer with").
+// What a call on rows is refused for before a row is used (document 01, "The numbers we answer with").
 ghost use mathlib.Core.Path.{_≡_};
+ghost use Rattle.row.specs.Rungs.{firstOf};
 ghost use Rattle.access.specs.Judging as spec;
+use crate::rows::row_at;
 use chip::keys::hidden;
+use chip::pages::Page;
 use chip::state::State;
 
-// The number of a row that may or may not be used: 6, 7, 3, or 0. A row past the slice holds nothing, so its entry is not too large.
-pub fn judged(rows: &[u32], state: State, may: bool, row: u32) -> u32
-    ensures { λ r. ⌜ r ≡ spec.judged (now (rows .entry)) state may row ⌝ }
+// The number of a row that may or may not be used: 6, 7, 3, or 0.
+pub fn row_number(rows: &[u32], state: State, may: bool, row: u32) -> u32
+    ensures { λ r. ⌜ r ≡ firstOf (spec.rowRungs (now (rows .entry)) state may row) ⌝ }
 {
     if hidden(state, row) {
         return 6;
@@ -14,18 +17,14 @@ pub fn judged(rows: &[u32], state: State, may: bool, row: u32) -> u32
     if !may {
         return 7;
     }
-    let at = row as usize;
-    if rows.len() <= at {
-        return 0;
-    }
-    if 16777215 < rows[at] {
+    if 16777215 < row_at(rows, row) {
         return 3;
     }
     0
 }
 
 // The number of a call on one row, before the row is used. `coded` says whether it goes by ECC, `too_large` whether its value is.
-pub fn row_number(
+pub fn call_number(
     rows: &[u32],
     state: State,
     caller: u32,
@@ -34,9 +33,9 @@ pub fn row_number(
     too_large: bool,
     may: bool,
 ) -> u32
-    ensures { λ r. ⌜ r ≡ spec.rowNumber (now (rows .entry)) state caller row coded «too_large» may ⌝ }
+    ensures { λ r. ⌜ r ≡ firstOf (spec.callRungs (now (rows .entry)) state caller row coded «too_large» may) ⌝ }
 {
-    if rows.len() != 4096 {
+    if rows.len() != Page::CHIP_ROWS {
         return 1;
     }
     if 1 < caller {
@@ -45,13 +44,13 @@ pub fn row_number(
     if too_large {
         return 4;
     }
-    if 4095 < row {
+    if Page::LAST_ROW < row {
         return 2;
     }
     if coded {
-        if 0xf80 <= row {
+        if Page::FIRST_LOCK_ROW <= row {
             return 5;
         }
     }
-    judged(rows, state, may, row)
+    row_number(rows, state, may, row)
 }

@@ -2,28 +2,28 @@
 ghost use mathlib.Core.Path.{_≡_};
 ghost use Prim.Native.Nat.{_+_, _≤_};
 ghost use lib.ListN.{length, take};
-ghost use Rattle.access.specs.Judging.{judgedUpward};
-ghost use Rattle.access.specs.Reads as spec;
-use crate::judging::judged;
+ghost use Rattle.row.specs.Rungs.{firstOf};
+ghost use Rattle.access.specs.Votes as spec;
+use crate::judging::row_number;
+use chip::pages::Page;
 use chip::permission::may_read;
 use chip::state::State;
 use row::answer::Answer;
-use row::answer::Condition;
-use row::answer::found;
 use row::answer::refused;
+use row::answer::told;
 use row::voting::Gathered;
 use row::voting::threshold;
 use row::voting::vote;
 
 // The number of the first of `count` rows, taken upward, that is not 0.
-fn judged_upward(rows: &[u32], state: State, caller: u32, row: u32, count: u32) -> u32
+fn group_number(rows: &[u32], state: State, caller: u32, row: u32, count: u32) -> u32
     requires { ⌜ row + count ≤ 4096 ⌝ }
-    ensures { λ r. ⌜ r ≡ judgedUpward (now (rows .entry)) state caller row count ⌝ }
+    ensures { λ r. ⌜ r ≡ firstOf (spec.groupRungs (now (rows .entry)) state caller row count) ⌝ }
 {
     let mut i = 0;
     while i < count {
         let at = row + i;
-        let number = judged(rows, state, may_read(state, caller, at), at);
+        let number = row_number(rows, state, may_read(state, caller, at), at);
         if number != 0 {
             return number;
         }
@@ -36,7 +36,7 @@ fn judged_upward(rows: &[u32], state: State, caller: u32, row: u32, count: u32) 
 fn read_vote_number(rows: &[u32], state: State, caller: u32, row: u32, count: u32) -> u32
     ensures { λ r. ⌜ r ≡ spec.readVoteNumber (now (rows .entry)) state caller row count ⌝ }
 {
-    if rows.len() != 4096 {
+    if rows.len() != Page::CHIP_ROWS {
         return 1;
     }
     if 1 < caller {
@@ -47,13 +47,13 @@ fn read_vote_number(rows: &[u32], state: State, caller: u32, row: u32, count: u3
             return 4;
         }
     }
-    if 4096 - count < row {
+    if Page::CHIP_ROWS as u32 - count < row {
         return 2;
     }
-    if 0xf80 - count < row {
+    if Page::FIRST_LOCK_ROW - count < row {
         return 5;
     }
-    judged_upward(rows, state, caller, row, count)
+    group_number(rows, state, caller, row, count)
 }
 
 // The rows of a group, gathered.
@@ -81,5 +81,5 @@ pub fn read_vote(rows: &[u32], state: State, caller: u32, row: u32, count: u32) 
         return refused(number);
     }
     let group = gathered(rows, row, count);
-    found(vote(group, count, threshold(count)), Condition::Clean)
+    told(vote(group, count, threshold(count)))
 }

@@ -1,9 +1,9 @@
 // What a rehearsal did: a line for each entry, with the old and the new bits of its row.
 use crate::print;
+use access::rows::row_at;
 use job::entries::Entry;
 use job::entries::count_of;
 use job::entries::entry_at;
-use job::rows::entry_of;
 use job::verdicts::entry_written;
 use row::writing::pulses;
 
@@ -60,8 +60,8 @@ pub fn lines(before: &[u32], after: &[u32], job: &[u8]) {
     let count = count_of(job);
     for place in 0..count {
         let entry = entry_at(job, place);
-        let old = entry_of(before, entry.row);
-        let new = entry_of(after, entry.row);
+        let old = row_at(before, entry.row);
+        let new = row_at(after, entry.row);
         change(entry, old, new);
     }
 }

@@ -2,12 +2,12 @@
 ghost use Prim.Native.Nat.{_<_};
 use crate::owner::allowed;
 use crate::print;
+use access::rows::row_at;
 use chip::pages::Page;
 use chip::state::State;
 use chip::state::counted_index;
 use chip::state::counted_level;
 use chip::state::counted_no_key;
-use job::rows::entry_of;
 use row::writing::pulses;
 
 // What the screen says of a page. Of each caller: 0 may do nothing, 1 read, 2 read and write, 3 read, and write as each row's own page allows.
@@ -29,7 +29,7 @@ fn burnt(rows: &[u32], page: u32) -> u32
     let mut sum: u32 = 0;
     for more in 0..64 {
         // A row has 24 bits, so neither remainder takes anything away.
-        let bits = pulses(0, entry_of(rows, page * 64 + more));
+        let bits = pulses(0, row_at(rows, page * 64 + more));
         sum = sum % 65536 + bits % 32;
     }
     sum

@@ -7,8 +7,8 @@ use Prim.Native.Nat.{ℕ, _+_}
 use native.Mathlib.Numerals.{add-one}
 use borrow.Author.Tests.{eq-eqb, ne-eqb}
 use Rattle.row.specs.Reading.{readRow}
-use Rattle.chip.specs.Keys.{allDecode}
-use Rattle.chip.specs.Lists.{entry}
+use Rattle.chip.specs.Resetting.{allDecode}
+use Rattle.chip.specs.Slices.{rowAt}
 
 and-true : (t : Bool) → (t && true) ≡ t
 and-true true = refl
@@ -18,12 +18,12 @@ and-false : (t : Bool) → (t && false) ≡ false
 and-false true = refl
 and-false false = refl
 
-pub decodes : (rows : List ℕ) (first n : ℕ) → readRow (entry rows (first + n)) .number ≡ 0
+pub decodes : (rows : List ℕ) (first n : ℕ) → readRow (rowAt rows (first + n)) .number ≡ 0
     → allDecode rows first (n + 1) ≡ allDecode rows first n
 unfolding allDecode
-decodes rows first n e = rw (add-one, eq-eqb (readRow (entry rows (first + n)) .number) 0 e) (and-true (allDecode rows first n))
+decodes rows first n e = rw (add-one, eq-eqb (readRow (rowAt rows (first + n)) .number) 0 e) (and-true (allDecode rows first n))
 
-pub decodes-not : (rows : List ℕ) (first n : ℕ) → (readRow (entry rows (first + n)) .number ≡ 0 → ⊥)
+pub decodes-not : (rows : List ℕ) (first n : ℕ) → (readRow (rowAt rows (first + n)) .number ≡ 0 → ⊥)
     → allDecode rows first (n + 1) ≡ false
 unfolding allDecode
-decodes-not rows first n e = rw (add-one, ne-eqb (readRow (entry rows (first + n)) .number) 0 e) (and-false (allDecode rows first n))
+decodes-not rows first n e = rw (add-one, ne-eqb (readRow (rowAt rows (first + n)) .number) 0 e) (and-false (allDecode rows first n))

@@ -4,3 +4,4 @@ pub mod Lists
 pub mod Majority
 pub mod Orders
 pub mod Ranges
+pub mod Sharing

@@ -7,7 +7,7 @@ use Prim.Native.Nat.{ℕ, zero, suc, _+_, _<_}
 use native.Mathlib.Nat.{le-of-suc-le-suc, not-suc-le-zero, le-of-eq}
 use native.Mathlib.Numerals.{add-one}
 use borrow.Author.Tests.{eq-eqb, ne-eqb}
-use lib.ListN.{length, getD, take, drop, set, length-append}
+use lib.ListN.{length, getD, take, drop, set, length-append, length-set}
 use lib.Seq.{take-suc-set, take-all, drop-cons, drop-length}
 use Rattle.chip.specs.Lists.{listed, same}
 
@@ -31,6 +31,18 @@ module _ {ℓ} {A : Type ℓ} (rule : ℕ → A) where
   -- all places are filled
   pub listed-all : (n : ℕ) (l : List A) → length l ≡ n → take n l ≡ listed n rule → l ≡ listed n rule
   listed-all n l h e = sym (take-all n l (le-of-eq h)) ∙ e
+
+-- an array whose places below some are filled by a rule
+abbrev pub Filled {ℓ} : {A : Type ℓ} → ℕ → (ℕ → A) → ℕ → List A → Type ℓ
+Filled size rule places l = (length l ≡ size) × (take places l ≡ listed places rule)
+
+module _ {ℓ} {A : Type ℓ} (size : ℕ) (rule : ℕ → A) (l : List A) where
+  pub filled-more : (i : ℕ) (value : A) → i < size → value ≡ rule i → Filled size rule i l → Filled size rule (i + 1) (set l i value)
+  filled-more i value h e filled =
+      rw e (length-set l i (rule i) ∙ filled .0, listed-more rule l i (rw (filled .0) h) (filled .1))
+
+  pub filled-all : (i : ℕ) → i ≡ size → Filled size rule i l → l ≡ listed size rule
+  filled-all i all filled = listed-all rule size l (filled .0) (rw all at (filled .1))
 
 -- the words compared one after the other
 pub same-next : (a b : List ℕ) (i : ℕ) → i < length a → i < length b → getD a i 0 ≡ getD b i 0

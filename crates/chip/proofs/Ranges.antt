@@ -8,7 +8,7 @@ use native.Mathlib.Numerals.{add-one}
 use borrow.Author.Tests.{le-leb, lt-leb}
 use lib.ListN.{length, getD, drop}
 use lib.Seq.{drop-cons, drop-length}
-use Rattle.chip.specs.Latching.{allInRange}
+use Rattle.chip.specs.Resetting.{allInRange}
 
 pub range-next : (rows : List ℕ) (i : ℕ) → i < length rows → getD rows i 0 ≤ 16777215 → allInRange (drop i rows) ≡ allInRange (drop (i + 1) rows)
 unfolding allInRange

@@ -1,32 +1,17 @@
--- The calls on the state: reset, advance a lock, show a lock, enter a key (document 01). Each has its number, first test first, and what it does.
+-- The calls on the state alone: advance a lock, show a lock, enter a key (document 01). Each has its number, first test first, and what it does.
 use Prim.Native.Nat.{ℕ, _+_, _*_}
-use mathlib.Core.Bool.{not, _&&_, _||_}
-use mathlib.Core.List.{List}
+use mathlib.Core.Bool.{not, _&&_}
+use mathlib.Core.List.{List, [], _∷_}
 use lib.Dec.{eqb, ltb, leb}
 use lib.ListN.{length, getD, set}
+use Rattle.row.specs.Answers.{told, done, answered}
 use Rattle.row.specs.Choice.{if_then_else_}
-use Rattle.row.specs.Answers.{refused, found}
+use Rattle.row.specs.Rungs.{_when_, firstOf}
 use Rattle.row.specs.declared.answer.Answer.{Answer}
-use Rattle.row.specs.declared.answer.Condition.the-variants.{Clean}
-use Rattle.chip.specs.Latching.{allInRange, latched}
 use Rattle.chip.specs.Lists.{listed}
 use Rattle.chip.specs.States.{countedLevel, withSecure, withNonsecure, withEntered, outcome}
 use Rattle.chip.specs.declared.state.State.{State}
 use Rattle.chip.specs.declared.state.Outcome.{Outcome}
-
--- a call that is done and reads nothing
-abbrev pub done : Answer
-done = found 0 Clean
-
--- reset
-abbrev pub resetNumber : List ℕ → ℕ
-resetNumber rows =
-    if not (eqb (length rows) 4096) then 1
-    else if not (allInRange rows) then 3
-    else 0
-
-unfoldable pub reset : List ℕ → State → Outcome
-reset rows state = outcome (resetNumber rows) state (record { answer = done; state = latched rows })
 
 -- the counted levels of a lock domain: 0 is Secure, 1 is Non-secure
 abbrev pub shownLevel : State → ℕ → ℕ → ℕ
@@ -35,9 +20,9 @@ shownLevel state domain page = if eqb domain 0 then countedLevel (state .secure)
 -- advance a lock: Secure may advance both domains, Non-secure only its own
 abbrev pub advanceNumber : ℕ → ℕ → ℕ → ℕ → ℕ
 advanceNumber caller domain page level =
-    if ltb 1 caller || ltb 1 domain || ltb 63 page || ltb 2 level then 4
-    else if eqb caller 1 && eqb domain 0 then 7
-    else 0
+    firstOf
+    (4 when ltb 1 caller ∷ 4 when ltb 1 domain ∷ 4 when ltb 63 page ∷ 4 when ltb 2 level
+    ∷ 7 when (eqb caller 1 && eqb domain 0) ∷ [])
 
 -- the state with a page's level in a domain set
 abbrev pub withLevel : State → ℕ → ℕ → ℕ → State
@@ -55,19 +40,14 @@ advance state caller domain page level =
 
 -- show a lock: both callers may show any level
 abbrev pub showNumber : ℕ → ℕ → ℕ → ℕ
-showNumber caller domain page = if ltb 1 caller || ltb 1 domain || ltb 63 page then 4 else 0
+showNumber caller domain page = firstOf (4 when ltb 1 caller ∷ 4 when ltb 1 domain ∷ 4 when ltb 63 page ∷ [])
 
 unfoldable pub showLock : State → ℕ → ℕ → ℕ → Answer
-showLock state caller domain page =
-    if eqb (showNumber caller domain page) 0 then found (shownLevel state domain page) Clean
-    else refused (showNumber caller domain page)
+showLock state caller domain page = answered (showNumber caller domain page) (told (shownLevel state domain page))
 
 -- enter a key: only Secure does, and a key has 16 bytes
 abbrev pub enterNumber : ℕ → List ℕ → ℕ
-enterNumber caller key =
-    if ltb 1 caller || not (eqb (length key) 16) then 4
-    else if eqb caller 1 then 7
-    else 0
+enterNumber caller key = firstOf (4 when ltb 1 caller ∷ 4 when not (eqb (length key) 16) ∷ 7 when eqb caller 1 ∷ [])
 
 -- bytes 0 and 1 stand against the first key row, low byte first, and so on
 abbrev pub keyWords : List ℕ → List ℕ

@@ -1,13 +1,11 @@
 -- Keys: where they stand, when one matches, and the key level of a page (document 01, "Keys").
-use Prim.Native.Nat.{ℕ, zero, suc, _+_, _-_, _*_, _/_, _%_}
-use mathlib.Core.Bool.{Bool, true, false, not, _&&_}
+use Prim.Native.Nat.{ℕ, _+_, _-_, _*_, _/_}
+use mathlib.Core.Bool.{Bool, false, not, _&&_}
 use mathlib.Core.List.{List, []}
 use lib.Dec.{eqb, ltb, leb}
 use lib.ListN.{getD, replicate}
 use Rattle.row.specs.Choice.{if_then_else_}
-use Rattle.row.specs.Reading.{readRow}
-use Rattle.chip.specs.Lists.{entry, listed, same}
-use Rattle.chip.specs.Locks.{votedByte}
+use Rattle.chip.specs.Lists.{same}
 use Rattle.chip.specs.States.{countedIndex, countedNoKey}
 use Rattle.chip.specs.declared.state.Key.{Key}
 use Rattle.chip.specs.declared.state.State.{State}
@@ -19,23 +17,6 @@ keyRow k = 0xf48 + 8 * (k - 1)
 -- its valid flag is this row
 abbrev pub validRow : ℕ → ℕ
 validRow k = 0xf78 + k
-
--- the word that is latched of a key row: its value, or 0 where it does not decode, which is the value of a refusal
-abbrev pub wordOf : ℕ → ℕ
-wordOf row = readRow row .value
-
--- whether all rows from one on decode
-unfoldable pub allDecode : List ℕ → ℕ → ℕ → Bool
-allDecode rows first zero = true
-allDecode rows first (suc n) = allDecode rows first n && eqb (readRow (entry rows (first + n)) .number) 0
-
--- what reset latches of key k: its words, low 16 bits first; its flag, set if at least two of bits 0, 8 and 16 are; whether all rows decoded
-abbrev pub latchedKey : List ℕ → ℕ → Key
-latchedKey rows k = record {
-  words = listed 8 (λ i. wordOf (entry rows (keyRow k + i)));
-  valid = eqb (votedByte (entry rows (validRow k)) % 2) 1;
-  whole = allDecode rows (keyRow k) 8;
-}
 
 -- an entered key of all zeros is none
 abbrev pub noKey : List ℕ

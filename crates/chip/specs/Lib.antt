@@ -1,8 +1,9 @@
 pub mod Lists
+pub mod Slices
 pub mod Pages
 pub mod States
 pub mod Locks
 pub mod Keys
-pub mod Latching
+pub mod Resetting
 pub mod Permission
 pub mod Calls

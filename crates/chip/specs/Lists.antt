@@ -3,11 +3,6 @@ use Prim.Native.Nat.{ℕ, zero, suc}
 use mathlib.Core.Bool.{Bool, true, false, _&&_}
 use mathlib.Core.List.{List, [], _∷_, _++_}
 use lib.Dec.{eqb}
-use lib.ListN.{getD}
-
--- the entry of a slice at a row
-abbrev pub entry : List ℕ → ℕ → ℕ
-entry rows row = getD rows row 0
 
 -- what a rule gives at 0, at 1 and so on, for the places below a number
 unfoldable pub listed {ℓ} : {A : Type ℓ} → ℕ → (ℕ → A) → List A

@@ -25,3 +25,7 @@ mayRead state caller row = isLockRow row || leb (max (callerLevel state caller r
 unfoldable pub mayWrite : State → ℕ → ℕ → Bool
 mayWrite state caller row =
     eqb (callerLevel state caller row) 0 && eqb (countedLevel (state .secure) (owner row)) 0 && eqb (rowKeyLevel state row) 0
+
+-- two rows that one page's levels and key settings decide
+abbrev pub sharePermission : ℕ → ℕ → Bool
+sharePermission a b = eqb (owner a) (owner b)

@@ -9,9 +9,9 @@ use crate::state::State;
 use crate::state::counted_level;
 use crate::state::refusal;
 use row::answer::Answer;
-use row::answer::Condition;
-use row::answer::found;
+use row::answer::done;
 use row::answer::refused;
+use row::answer::told;
 
 // The level of a page in a lock domain, as it counts.
 fn shown_level(state: State, domain: u32, page: Page) -> u32
@@ -35,7 +35,7 @@ fn advance_number(caller: u32, domain: u32, page: u32, level: u32) -> u32
     if 1 < domain {
         return 4;
     }
-    if 63 < page {
+    if Page::LAST < page {
         return 4;
     }
     if 2 < level {
@@ -57,7 +57,7 @@ pub fn advance(state: State, caller: u32, domain: u32, page: u32, level: u32) ->
     if number != 0 {
         return refusal(number, state);
     }
-    let answer = found(0, Condition::Clean);
+    let answer = done();
     let next = advanced(state, domain, page, level);
     Outcome {
         answer,
@@ -93,7 +93,7 @@ fn show_number(caller: u32, domain: u32, page: u32) -> u32
     if 1 < domain {
         return 4;
     }
-    if 63 < page {
+    if Page::LAST < page {
         return 4;
     }
     0
@@ -107,10 +107,7 @@ pub fn show(state: State, caller: u32, domain: u32, page: u32) -> Answer
     if number != 0 {
         return refused(number);
     }
-    found(
-        shown_level(state, domain, Page { number: page as u8 }),
-        Condition::Clean,
-    )
+    told(shown_level(state, domain, Page { number: page as u8 }))
 }
 
 // The number of entering a key.
@@ -155,7 +152,7 @@ pub fn enter_key(state: State, caller: u32, key: &[u8]) -> Outcome
     let mut next = state;
     next.entered = words;
     Outcome {
-        answer: found(0, Condition::Clean),
+        answer: done(),
         state: next,
     }
 }

@@ -9,7 +9,7 @@ use crate::state::counted_index;
 use crate::state::counted_no_key;
 
 // Whether two keys have the same words.
-pub fn same(a: Words, b: Words) -> bool
+fn same(a: Words, b: Words) -> bool
     ensures { λ r. ⌜ r ≡ sameLists a b ⌝ }
 {
     let mut i = 0;
@@ -79,13 +79,13 @@ pub fn key_level(state: State, page: Page) -> u32
 pub fn hidden(state: State, row: u32) -> bool
     ensures { λ r. ⌜ r ≡ spec.hidden state row ⌝ }
 {
-    if row < 0xf48 {
+    if row < Page::FIRST_KEY_ROW {
         return false;
     }
-    if 0xf78 <= row {
+    if Page::PAST_KEY_ROWS <= row {
         return false;
     }
-    let at = ((row - 0xf48) / 8) as usize;
+    let at = ((row - Page::FIRST_KEY_ROW) / 8) as usize;
     let keys = state.keys;
     let key = keys[at];
     key.valid

@@ -8,49 +8,60 @@ pub struct Page {
 }
 
 impl Page {
-    pub const COUNT: u32 = 64;
+    pub const COUNT: usize = 64;
+
+    pub const LAST: u32 = 63;
 
     pub const ROWS: u32 = 64;
 
-    pub const FIRST_LOCK_ROW: u32 = 0xf80;
+    pub const CHIP_ROWS: usize = 4096;
 
-    pub const CHIP_ROWS: u32 = 4096;
+    pub const LAST_ROW: u32 = 4095;
+
+    // From here up no job writes: the keys, their valid flags and the lock words.
+    pub const FIRST_KEPT_ROW: u32 = 0xf40;
+
+    pub const FIRST_KEY_ROW: u32 = 0xf48;
+
+    pub const PAST_KEY_ROWS: u32 = 0xf78;
+
+    pub const FIRST_LOCK_ROW: u32 = 0xf80;
 
     // The first row of the page.
     pub fn first_row(self) -> u32
         ensures { λ r. ⌜ r ≡ spec.firstRow (self .number) ⌝ }
     {
-        64 * (self.number as u32)
+        Page::ROWS * (self.number as u32)
     }
 
     // The low row of the page's lock word.
     pub fn low_lock_row(self) -> u32
         ensures { λ r. ⌜ r ≡ spec.lowLockRow (self .number) ⌝ }
     {
-        0xf80 + 2 * (self.number as u32)
+        Page::FIRST_LOCK_ROW + 2 * (self.number as u32)
     }
 
     // The high row of the page's lock word.
     pub fn high_lock_row(self) -> u32
         ensures { λ r. ⌜ r ≡ spec.highLockRow (self .number) ⌝ }
     {
-        0xf81 + 2 * (self.number as u32)
+        Page::FIRST_LOCK_ROW + 1 + 2 * (self.number as u32)
     }
 
     // The page that a row goes by.
     pub fn owner(row: u32) -> Page
         ensures { λ r. ⌜ r .number ≡ spec.owner row ⌝ }
     {
-        if 4095 < row {
+        if Page::LAST_ROW < row {
             return Page { number: 64 };
         }
-        if 0xf80 <= row {
+        if Page::FIRST_LOCK_ROW <= row {
             return Page {
-                number: ((row - 0xf80) / 2) as u8,
+                number: ((row - Page::FIRST_LOCK_ROW) / 2) as u8,
             };
         }
         Page {
-            number: (row / 64) as u8,
+            number: (row / Page::ROWS) as u8,
         }
     }
 }

@@ -29,7 +29,7 @@ pub fn caller_level(state: State, caller: u32, row: u32) -> u32
 pub fn may_read(state: State, caller: u32, row: u32) -> bool
     ensures { λ r. ⌜ r ≡ spec.mayRead state caller row ⌝ }
 {
-    if 0xf80 <= row {
+    if Page::FIRST_LOCK_ROW <= row {
         return true;
     }
     if 1 < caller_level(state, caller, row) {
@@ -49,4 +49,13 @@ pub fn may_write(state: State, caller: u32, row: u32) -> bool
         return false;
     }
     row_key_level(state, row) == 0
+}
+
+// Whether one page's levels and key settings decide both rows: who may write one may then write the other.
+pub fn share_permission(a: u32, b: u32) -> bool
+    ensures { λ r. ⌜ r ≡ spec.sharePermission a b ⌝ }
+{
+    let owner_of_a = Page::owner(a);
+    let owner_of_b = Page::owner(b);
+    owner_of_a.number == owner_of_b.number
 }

@@ -1,20 +1,23 @@
 // Reset, and what it latches of the rows (document 01, "Locks" and "Keys").
 ghost use mathlib.Core.Path.{_≡_};
-ghost use Prim.Native.Nat.{_+_, _*_, _/_, _%_, _^_, _≤_, _<_};
+ghost use Prim.Native.Nat.{_+_, _≤_};
 ghost use lib.ListN.{length};
-ghost use Rattle.chip.specs.Calls as calls;
-ghost use Rattle.chip.specs.Latching as spec;
-ghost use Rattle.chip.specs.Keys.{latchedKey};
-ghost use Rattle.chip.specs.Lists.{listed, entry};
-ghost use Rattle.chip.specs.Locks.{votedByte, levelOf, noKeyField};
+ghost use Rattle.chip.specs.Lists.{listed};
+ghost use Rattle.chip.specs.Locks.{levelOf, secureField, nonsecureField, writeKeyField, readKeyField, noKeyField};
+ghost use Rattle.chip.specs.Pages.{lowLockRow, highLockRow};
+ghost use Rattle.chip.specs.Resetting as spec;
+ghost use Rattle.chip.specs.Slices.{rowAt};
 use crate::locks::level_of;
 use crate::locks::voted_byte;
+use crate::pages::Page;
+use crate::state::Flags;
+use crate::state::Indexes;
 use crate::state::Key;
+use crate::state::Levels;
 use crate::state::Outcome;
 use crate::state::State;
 use crate::state::refusal;
-use row::answer::Condition;
-use row::answer::found;
+use row::answer::done;
 use row::reading::read_row;
 
 // Whether no entry is above 16,777,215.
@@ -31,58 +34,90 @@ pub fn all_in_range(rows: &[u32]) -> bool
     true
 }
 
-// The levels of the 64 pages, from the two bits at a place of the high lock rows.
-fn levels(rows: &[u32], place: u32) -> [u8; 64]
-    requires { ⌜ (length (now rows) ≡ 4096) × (place < 32) ⌝ }
-    ensures { λ r. ⌜ r ≡ listed 64 (λ page. levelOf (votedByte (entry (now (rows .entry)) (0xf81 + 2 * page)) / 2 ^ place % 4)) ⌝ }
-{
-    let mut levels = [0u8; 64];
-    let mut page: usize = 0;
-    while page < 64 {
-        let byte = voted_byte(rows[0xf81 + 2 * page]);
-        levels[page] = level_of((byte >> place) % 4);
-        page += 1;
-    }
-    levels
+// The fields of one lock word.
+struct LockWord {
+    secure: u8,
+    nonsecure: u8,
+    writekey: u8,
+    readkey: u8,
+    nokey: bool,
 }
 
-// The key indexes of the 64 pages, from the three bits at a place of the low lock rows.
-fn indexes(rows: &[u32], place: u32) -> [u8; 64]
-    requires { ⌜ (length (now rows) ≡ 4096) × (place < 32) ⌝ }
-    ensures { λ r. ⌜ r ≡ listed 64 (λ page. votedByte (entry (now (rows .entry)) (0xf80 + 2 * page)) / 2 ^ place % 8) ⌝ }
+// The fields of a lock word's two rows. Each row is voted once.
+fn lock_word(low_row: u32, high_row: u32) -> LockWord
+    ensures { λ r. ⌜
+        (r .secure ≡ levelOf (secureField «high_row»))
+        × (r .nonsecure ≡ levelOf (nonsecureField «high_row»))
+        × (r .writekey ≡ writeKeyField «low_row»)
+        × (r .readkey ≡ readKeyField «low_row»)
+        × (r .nokey ≡ noKeyField «low_row»)
+        ⌝ }
 {
-    let mut indexes = [0u8; 64];
-    let mut page: usize = 0;
-    while page < 64 {
-        let byte = voted_byte(rows[0xf80 + 2 * page]);
-        indexes[page] = ((byte >> place) % 8) as u8;
-        page += 1;
+    let low = voted_byte(low_row);
+    let high = voted_byte(high_row);
+    LockWord {
+        secure: level_of(high % 4),
+        nonsecure: level_of(high / 4 % 4),
+        writekey: (low % 8) as u8,
+        readkey: (low / 8 % 8) as u8,
+        nokey: low / 64 % 2 == 1,
     }
-    indexes
 }
 
-// The no-key states of the 64 pages.
-fn no_keys(rows: &[u32]) -> [bool; 64]
+// The fields of all 64 lock words.
+struct Locks {
+    secure: Levels,
+    nonsecure: Levels,
+    writekey: Indexes,
+    readkey: Indexes,
+    nokey: Flags,
+}
+
+// The fields of the 64 lock words of a slice.
+fn locks_of(rows: &[u32]) -> Locks
     requires { ⌜ length (now rows) ≡ 4096 ⌝ }
-    ensures { λ r. ⌜ r ≡ listed 64 (λ page. noKeyField (entry (now (rows .entry)) (0xf80 + 2 * page))) ⌝ }
+    ensures { λ r. ⌜
+        (r .secure ≡ listed 64 (λ page. levelOf (secureField (rowAt (now (rows .entry)) (highLockRow page)))))
+        × (r .nonsecure ≡ listed 64 (λ page. levelOf (nonsecureField (rowAt (now (rows .entry)) (highLockRow page)))))
+        × (r .writekey ≡ listed 64 (λ page. writeKeyField (rowAt (now (rows .entry)) (lowLockRow page))))
+        × (r .readkey ≡ listed 64 (λ page. readKeyField (rowAt (now (rows .entry)) (lowLockRow page))))
+        × (r .nokey ≡ listed 64 (λ page. noKeyField (rowAt (now (rows .entry)) (lowLockRow page))))
+        ⌝ }
 {
-    let mut states = [false; 64];
-    let mut page: usize = 0;
-    while page < 64 {
-        let byte = voted_byte(rows[0xf80 + 2 * page]);
-        states[page] = byte / 64 % 2 == 1;
-        page += 1;
+    let mut secure = [0u8; 64];
+    let mut nonsecure = [0u8; 64];
+    let mut writekey = [0u8; 64];
+    let mut readkey = [0u8; 64];
+    let mut nokey = [false; 64];
+    let mut at: usize = 0;
+    while at < Page::COUNT {
+        let page = Page { number: at as u8 };
+        let low = page.low_lock_row() as usize;
+        let high = page.high_lock_row() as usize;
+        let word = lock_word(rows[low], rows[high]);
+        secure[at] = word.secure;
+        nonsecure[at] = word.nonsecure;
+        writekey[at] = word.writekey;
+        readkey[at] = word.readkey;
+        nokey[at] = word.nokey;
+        at += 1;
     }
-    states
+    Locks {
+        secure,
+        nonsecure,
+        writekey,
+        readkey,
+        nokey,
+    }
 }
 
 // What reset latches of key k.
 fn latched_key(rows: &[u32], k: u32) -> Key
     requires { ⌜ (length (now rows) ≡ 4096) × (1 ≤ k) × (k ≤ 6) ⌝ }
-    ensures { λ r. ⌜ r ≡ latchedKey (now (rows .entry)) k ⌝ }
+    ensures { λ r. ⌜ r ≡ spec.latchedKey (now (rows .entry)) k ⌝ }
 {
-    let first = (0xf48 + 8 * (k - 1)) as usize;
-    let flag = rows[(0xf78 + k) as usize];
+    let first = (Page::FIRST_KEY_ROW + 8 * (k - 1)) as usize;
+    let flag = rows[(Page::PAST_KEY_ROWS + k) as usize];
     let mut words = [0u16; 8];
     let mut whole = true;
     let mut i = 0;
@@ -104,7 +139,7 @@ fn latched_key(rows: &[u32], k: u32) -> Key
 // The six keys.
 fn six_keys(rows: &[u32]) -> [Key; 6]
     requires { ⌜ length (now rows) ≡ 4096 ⌝ }
-    ensures { λ r. ⌜ r ≡ listed 6 (λ i. latchedKey (now (rows .entry)) (i + 1)) ⌝ }
+    ensures { λ r. ⌜ r ≡ listed 6 (λ i. spec.latchedKey (now (rows .entry)) (i + 1)) ⌝ }
 {
     let blank = Key {
         words: [0; 8],
@@ -125,11 +160,12 @@ fn latched(rows: &[u32]) -> State
     requires { ⌜ length (now rows) ≡ 4096 ⌝ }
     ensures { λ r. ⌜ r ≡ spec.latched (now (rows .entry)) ⌝ }
 {
-    let secure = levels(rows, 0);
-    let nonsecure = levels(rows, 2);
-    let writekey = indexes(rows, 0);
-    let readkey = indexes(rows, 3);
-    let nokey = no_keys(rows);
+    let locks = locks_of(rows);
+    let secure = locks.secure;
+    let nonsecure = locks.nonsecure;
+    let writekey = locks.writekey;
+    let readkey = locks.readkey;
+    let nokey = locks.nokey;
     let keys = six_keys(rows);
     State {
         secure,
@@ -144,15 +180,15 @@ fn latched(rows: &[u32]) -> State
 
 // Latches what the rows hold.
 pub fn reset(rows: &[u32], state: State) -> Outcome
-    ensures { λ r. ⌜ r ≡ calls.reset (now (rows .entry)) state ⌝ }
+    ensures { λ r. ⌜ r ≡ spec.reset (now (rows .entry)) state ⌝ }
 {
-    if rows.len() != 4096 {
+    if rows.len() != Page::CHIP_ROWS {
         return refusal(1, state);
     }
     if !all_in_range(rows) {
         return refusal(3, state);
     }
-    let answer = found(0, Condition::Clean);
+    let answer = done();
     let state = latched(rows);
     Outcome { answer, state }
 }

@@ -77,7 +77,7 @@ pub fn counted_level(levels: Levels, page: Page) -> u32
     ensures { λ r. ⌜ r ≡ spec.countedLevel levels (page .number) ⌝ }
 {
     let at = page.number as usize;
-    if 63 < at {
+    if Page::COUNT <= at {
         return 2;
     }
     let level = levels[at];
@@ -92,7 +92,7 @@ pub fn counted_index(indexes: Indexes, page: Page) -> u32
     ensures { λ r. ⌜ r ≡ spec.countedIndex indexes (page .number) ⌝ }
 {
     let at = page.number as usize;
-    if 63 < at {
+    if Page::COUNT <= at {
         return 0;
     }
     let index = indexes[at];
@@ -107,7 +107,7 @@ pub fn counted_no_key(nokeys: Flags, page: Page) -> bool
     ensures { λ r. ⌜ r ≡ spec.countedNoKey nokeys (page .number) ⌝ }
 {
     let at = page.number as usize;
-    if 63 < at {
+    if Page::COUNT <= at {
         return false;
     }
     nokeys[at]

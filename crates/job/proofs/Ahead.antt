@@ -6,8 +6,9 @@ use Prim.Native.Nat.{ℕ, _+_, _-_, _≤_, _<_}
 use native.Mathlib.Nat.{add-assoc, zero-add}
 use borrow.Author.Tests.{le-leb, lt-leb}
 use lib.ListN.{set}
-use Rattle.chip.specs.Lists.{entry}
-use Rattle.job.specs.Burning.{Progress, writtenOver, withEntry, burntUpward, after, rehearsed}
+use Rattle.row.specs.Upward.{burntUpward}
+use Rattle.chip.specs.Slices.{rowAt}
+use Rattle.job.specs.Burning.{Progress, writtenOver, withEntry, after, rehearsed}
 use Rattle.job.specs.Entries.{entryAt, entriesFrom}
 use Rattle.job.proofs.Upward.{next-left, none-left}
 
@@ -41,7 +42,7 @@ module _ (job : List ℕ) (count : ℕ) (rows : List ℕ) (left i : ℕ) where
   pub burn-stops : i < count → left < writtenOver rows (entryAt job i) .pulses
       → rehearsed rows left (entriesFrom job i (count - i))
       ≡ record {
-        rows = set rows (entryAt job i .row) (burntUpward left (entry rows (entryAt job i .row)) (writtenOver rows (entryAt job i) .row));
+        rows = set rows (entryAt job i .row) (burntUpward left (rowAt rows (entryAt job i .row)) (writtenOver rows (entryAt job i) .row));
         pulses = left;
         place = 0;
       }

@@ -1,4 +1,5 @@
 pub mod Ahead
+pub mod Faulty
+pub mod Fitting
 pub mod Upward
 pub mod Whole
-pub mod Lowest

@@ -1,16 +1,19 @@
 -- Entries taken in order, one after the other: what is left answers for the whole.
 -- Assumes nothing.
-use mathlib.Core.Path.{_≡_, sym, ap}
-use mathlib.Core.Bool.{true, false}
-use mathlib.Core.List.{List, [], _∷_}
-use Prim.Native.Nat.{ℕ, suc, _+_, _-_, _≤_, _<_}
+use mathlib.Core.Path.{_≡_, refl, sym, ap}
+use mathlib.Core.Bool.{Bool, true, false, not}
+use mathlib.Core.List.{List, [], _∷_, _++_}
+use Prim.Native.Nat.{ℕ, suc, _+_, _-_, _<_}
 use native.Mathlib.Nat.{sub-zero}
 use native.Mathlib.Numerals.{add-one}
 use native.Mathlib.Omega.{arith}
-use borrow.Author.Tests.{lt-ltb, le-ltb, eq-eqb, ne-eqb}
+use Rattle.row.specs.Rungs.{Rung, _when_, _ofEntry_, firstOf}
+use Rattle.chip.specs.Permission.{mayWrite}
+use Rattle.chip.specs.Slices.{rowAt, tooLarge}
 use Rattle.chip.specs.declared.state.State.{State}
-use Rattle.job.specs.Entries.{entryAt, entriesFrom, badEntry, anyBad, outOfOrder}
-use Rattle.job.specs.Verdicts.{entryNumber, judgedFrom}
+use Rattle.job.specs.Entries.{entryAt, entriesFrom}
+use Rattle.job.specs.declared.entries.Entry.{Entry}
+use Rattle.job.specs.Verdicts.{unfit, entryRungs, allRungs, verdict}
 
 module _ (job : List ℕ) (count : ℕ) where
   -- before the first entry all are left
@@ -31,39 +34,59 @@ module _ (job : List ℕ) (count : ℕ) where
       let none : count - i ≡ 0 = omega arith in
       rw none
 
-  module _ (i : ℕ) (h : i < count) where
-    pub bad-stops : badEntry (entryAt job i) ≡ true → anyBad (entriesFrom job i (count - i)) ≡ true
-    unfolding anyBad
-    bad-stops e = rw (next-left i h, e)
+-- ---- the three rungs of an entry, and then the rest
 
-    pub bad-next : badEntry (entryAt job i) ≡ false
-        → anyBad (entriesFrom job i (count - i)) ≡ anyBad (entriesFrom job (i + 1) (count - (i + 1)))
-    unfolding anyBad
-    bad-next e = rw (next-left i h, e)
+module _ (i : ℕ) (rest : List Rung) where
+  abbrev own : Bool → Bool → Bool → List Rung → List Rung
+  own a b c next = 7 when a ofEntry i ∷ 3 when b ofEntry i ∷ 9 when c ofEntry i ∷ next
 
-    pub high-stops : (least : ℕ) → 0xf3f < entryAt job i .row → outOfOrder least (entriesFrom job i (count - i)) ≡ true
-    unfolding outOfOrder
-    high-stops least high = rw (next-left i h) (simp (lt-ltb _ _ high))
+  own-stops : (a b c : Bool) → (firstOf (own a b c []) ≡ 0 → ⊥)
+      → verdict (own a b c rest) ≡ record { number = firstOf (own a b c []); place = i }
+  own-stops true b c some = refl
+  own-stops false true c some = refl
+  own-stops false false true some = refl
+  own-stops false false false some = absurd (some refl)
 
-    pub low-stops : (least : ℕ) → entryAt job i .row ≤ 0xf3f → entryAt job i .row < least
-        → outOfOrder least (entriesFrom job i (count - i)) ≡ true
-    unfolding outOfOrder
-    low-stops least high low = rw (next-left i h) (simp (le-ltb _ _ high, lt-ltb _ _ low))
+  own-next : (a b c : Bool) → firstOf (own a b c []) ≡ 0 → verdict (own a b c rest) ≡ verdict rest
+  own-next true b c none = absurd (omega arith)
+  own-next false true c none = absurd (omega arith)
+  own-next false false true none = absurd (omega arith)
+  own-next false false false none = refl
 
-    pub order-next : (least : ℕ) → entryAt job i .row ≤ 0xf3f → least ≤ entryAt job i .row
-        → outOfOrder least (entriesFrom job i (count - i))
-        ≡ outOfOrder (entryAt job i .row + 1) (entriesFrom job (i + 1) (count - (i + 1)))
-    unfolding outOfOrder
-    order-next least high low = rw (next-left i h) (simp (le-ltb _ _ high, le-ltb _ _ low))
+  own-none : (a b c : Bool) → firstOf (own a b c rest) ≡ 0 → (firstOf (own a b c []) ≡ 0) × (firstOf rest ≡ 0)
+  own-none true b c none = absurd (omega arith)
+  own-none false true c none = absurd (omega arith)
+  own-none false false true none = absurd (omega arith)
+  own-none false false false none = (refl, none)
 
-    module _ (rows : List ℕ) (state : State) where
-      pub judged-stops : (entryNumber rows state (entryAt job i) ≡ 0 → ⊥)
-          → judgedFrom rows state i (entriesFrom job i (count - i)) ≡ record { number = entryNumber rows state (entryAt job i); place = i }
-      unfolding judgedFrom
-      judged-stops e = rw (next-left i h, ne-eqb _ _ e)
+module _ (rows : List ℕ) (may : Bool) (i : ℕ) (e : Entry) (rest : List Rung) where
+  -- an entry that is refused answers for all
+  pub entry-stops : (firstOf (entryRungs rows may i e) ≡ 0 → ⊥)
+      → verdict (entryRungs rows may i e ++ rest) ≡ record { number = firstOf (entryRungs rows may i e); place = i }
+  unfolding entryRungs
+  entry-stops = own-stops i rest (not may) (tooLarge rows (e .row)) (unfit (rowAt rows (e .row)) e)
 
-      pub judged-next : entryNumber rows state (entryAt job i) ≡ 0
-          → judgedFrom rows state i (entriesFrom job i (count - i))
-          ≡ judgedFrom rows state (i + 1) (entriesFrom job (i + 1) (count - (i + 1)))
-      unfolding judgedFrom
-      judged-next e = rw (next-left i h, eq-eqb _ _ e)
+  -- any other hands on to those after it
+  pub entry-next : firstOf (entryRungs rows may i e) ≡ 0 → verdict (entryRungs rows may i e ++ rest) ≡ verdict rest
+  unfolding entryRungs
+  entry-next = own-next i rest (not may) (tooLarge rows (e .row)) (unfit (rowAt rows (e .row)) e)
+
+  -- where none is refused, neither this one nor those after it are
+  pub entry-none : firstOf (entryRungs rows may i e ++ rest) ≡ 0 → (firstOf (entryRungs rows may i e) ≡ 0) × (firstOf rest ≡ 0)
+  unfolding entryRungs
+  entry-none = own-none i rest (not may) (tooLarge rows (e .row)) (unfit (rowAt rows (e .row)) e)
+
+module _ (job : List ℕ) (count i : ℕ) (h : i < count) (rows : List ℕ) (state : State) where
+  abbrev number : ℕ
+  number = firstOf (entryRungs rows (mayWrite state 0 (entryAt job i .row)) i (entryAt job i))
+
+  pub judged-stops : (number ≡ 0 → ⊥)
+      → verdict (allRungs rows state i (entriesFrom job i (count - i))) ≡ record { number = number; place = i }
+  unfolding allRungs
+  judged-stops some = rw (next-left job count i h) (entry-stops rows _ i (entryAt job i) _ some)
+
+  pub judged-next : number ≡ 0
+      → verdict (allRungs rows state i (entriesFrom job i (count - i)))
+      ≡ verdict (allRungs rows state (i + 1) (entriesFrom job (i + 1) (count - (i + 1))))
+  unfolding allRungs
+  judged-next none = rw (next-left job count i h) (entry-next rows _ i (entryAt job i) _ none)

@@ -1,28 +1,32 @@
 -- A rehearsal with enough pulses is the job, and 12,288 pulses are enough for any job that is accepted.
 -- Assumes nothing.
 use mathlib.Core.Path.{_≡_, refl, ap, _∙_}
-use mathlib.Core.Bool.{Bool, true, false, not, _||_, _&&_}
+use mathlib.Core.Bool.{Bool, true, false}
 use mathlib.Core.List.{List, [], _∷_}
 use Prim.Native.Nat.{ℕ, zero, suc, _+_, _-_, _*_, _≤_, zero-le}
 use native.Mathlib.Numerals.{one-add}
 use native.Mathlib.Omega.{arith}
-use borrow.Author.Tests.{le-leb, ltb-false, eqb-true}
+use borrow.Author.Tests.{le-leb, eqb-true}
 use lib.Bits.{bitAnd}
-use lib.Dec.{eqb, ltb}
+use lib.Dec.{eqb}
 use lib.ListN.{length}
 use Rattle.row.specs.Choice.{if_then_else_}
 use Rattle.row.specs.Code.{setBits, flipped, plain, inverted}
 use Rattle.row.specs.Reading.{dataOf}
-use Rattle.row.specs.Writing.{fits, pulses, burnt, kept, eccWritten, rawWritten}
+use Rattle.row.specs.Writing.{fits, pulses, burntOver, leftAlone, eccWritten, rawWritten}
 use Rattle.row.proofs.Counts.{ones-le}
-use Rattle.chip.proofs.Ladders.{never-zero, neither}
+use Rattle.row.specs.Rungs.{firstOf}
+use Rattle.row.proofs.Ladders.{passed}
+use Rattle.chip.specs.Slices.{notWhole}
 use Rattle.chip.specs.declared.state.State.{State}
 use Rattle.job.specs.Burning.{Progress, writtenOver, withEntry, allWritten, allPulses, rehearsed}
-use Rattle.job.specs.Entries.{byteAt, versionOf, countOf, entriesFrom, entriesOf, anyBad, malformed, outOfOrder}
+use Rattle.job.specs.Entries.{countOf, entriesFrom, entriesOf}
+use Rattle.job.specs.Faults.{headFault, faultOf, malformed, outOfOrder}
 use Rattle.job.specs.Jobs.{carriedOut, runJob, rehearse}
-use Rattle.job.specs.Verdicts.{entryWritten, judgedFrom, verdictOf}
+use Rattle.job.specs.Verdicts.{entryWritten, allRungs, verdictOf}
 use Rattle.job.specs.declared.entries.Entry.{Entry}
-use Rattle.job.specs.declared.verdicts.Verdict.{Verdict}
+use Rattle.job.specs.declared.faults.Fault.the-variants.{Sound}
+use Rattle.job.proofs.Faulty.{no-fault, both-sound, head-count}
 
 -- ---- a row takes at most 24 pulses
 
@@ -34,7 +38,7 @@ ecc-few : (old value : ℕ) → eccWritten old value .pulses ≤ 24
 ecc-few old value = go (fits old (plain value)) (fits old (inverted value))
   where
     go : (p i : Bool)
-        → (if p then burnt old (plain value) else if i then burnt old (inverted value) else kept old 9) .pulses ≤ 24
+        → (if p then burntOver old (plain value) else if i then burntOver old (inverted value) else leftAlone old 9) .pulses ≤ 24
     go true i = pulses-few old (plain value)
     go false true = pulses-few old (inverted value)
     go false false = zero-le
@@ -77,30 +81,19 @@ length-entries job i (suc n) = ap suc (length-entries job (suc i) n)
 
 -- ---- a job that is accepted
 
-passed-verdict : (t : Bool) (n : ℕ) (rest : Verdict) → (if t then record { number = suc n; place = 0 } else rest) .number ≡ 0
-    → (t ≡ false) × (rest .number ≡ 0)
-passed-verdict true n rest e = absurd (never-zero n e)
-passed-verdict false n rest e = (refl, e)
-
--- it is well formed and in order, and each entry is accepted
+-- its bytes have no fault, and each entry is accepted
 pub accepted : (rows : List ℕ) (state : State) (job : List ℕ) → verdictOf rows state job .number ≡ 0
-    → (not (eqb (length rows) 4096) ≡ false) × (malformed job ≡ false) × (outOfOrder 0 (entriesOf job) ≡ false)
-    × (judgedFrom rows state 0 (entriesOf job) .number ≡ 0)
+    → (notWhole rows ≡ false) × (faultOf job ≡ Sound) × (firstOf (allRungs rows state 0 (entriesOf job)) ≡ 0)
 unfolding verdictOf
 accepted rows state job e =
-    let one = passed-verdict (not (eqb (length rows) 4096)) 0 _ e in
-    let ten = passed-verdict (malformed job) 9 _ (one .1) in
-    let eleven = passed-verdict (outOfOrder 0 (entriesOf job)) 10 _ (ten .1) in
-    (one .0, ten .0, eleven .0, eleven .1)
+    let one = passed (notWhole rows) 0 _ e in
+    let ten = passed (malformed job) 9 _ (one .1) in
+    let eleven = passed (outOfOrder job) 10 _ (ten .1) in
+    (one .0, no-fault (faultOf job) (ten .0) (eleven .0), eleven .1)
 
-pub count-few : (job : List ℕ) → malformed job ≡ false → countOf job ≤ 512
-unfolding malformed
-count-few job e =
-    let head : Bool = ltb (length job) 7 || not (eqb (byteAt job 0) 0x4f && eqb (byteAt job 1) 0x54 && eqb (byteAt job 2) 0x4a)
-    || not (eqb (versionOf job) 1) in
-    let many : Bool = ltb 512 (countOf job) in
-    let long : Bool = not (eqb (length job) (7 + 6 * countOf job)) in
-    ltb-false 512 (countOf job) (neither head many (neither (head || many) long (neither (head || many || long) (anyBad (entriesOf job)) e .0) .0) .1)
+pub count-few : (job : List ℕ) → faultOf job ≡ Sound → countOf job ≤ 512
+unfolding faultOf
+count-few job e = head-count job (both-sound (headFault job) _ e .0)
 
 -- with 12,288 pulses a rehearsal is the job
 pub whole-job : (rows : List ℕ) (state : State) (job : List ℕ) → rehearse rows state job 12288 ≡ runJob rows state job

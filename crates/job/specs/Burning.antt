@@ -1,21 +1,18 @@
 -- What a job and a rehearsal burn (document 01, "Jobs").
-use Prim.Native.Nat.{ℕ, zero, suc, _+_, _-_, _*_, _^_}
+use Prim.Native.Nat.{ℕ, _+_, _-_}
 use mathlib.Core.List.{List, [], _∷_}
-use lib.Bits.{bitAnd, bitOr}
-use lib.Count.{onesIn}
-use lib.Dec.{ltb, leb}
+use lib.Dec.{leb}
 use lib.ListN.{set}
 use Rattle.row.specs.Choice.{if_then_else_}
-use Rattle.row.specs.Code.{flipped}
-use Rattle.row.specs.Voting.{bitAt}
+use Rattle.row.specs.Upward.{burntUpward}
 use Rattle.row.specs.declared.writing.Written.{Written}
-use Rattle.chip.specs.Lists.{entry}
+use Rattle.chip.specs.Slices.{rowAt}
 use Rattle.job.specs.Verdicts.{entryWritten}
 use Rattle.job.specs.declared.entries.Entry.{Entry}
 
 -- what writing an entry over its row gives
 abbrev pub writtenOver : List ℕ → Entry → Written
-writtenOver rows e = entryWritten (entry rows (e .row)) e
+writtenOver rows e = entryWritten (rowAt rows (e .row)) e
 
 -- the rows with an entry's row burnt
 abbrev pub withEntry : List ℕ → Entry → List ℕ
@@ -30,15 +27,6 @@ allWritten rows (e ∷ others) = allWritten (withEntry rows e) others
 unfoldable pub allPulses : List ℕ → List Entry → ℕ
 allPulses rows [] = 0
 allPulses rows (e ∷ others) = writtenOver rows e .pulses + allPulses (withEntry rows e) others
-
--- of some bits the n lowest, among those below `places`: a bit is among them if fewer than n are set below it
-unfoldable pub lowestBelow : ℕ → ℕ → ℕ → ℕ
-lowestBelow zero n bits = 0
-lowestBelow (suc place) n bits = lowestBelow place n bits + (if ltb (onesIn place bits) n then bitAt place bits else 0) * 2 ^ place
-
--- a row burnt for n pulses, bits upward: the old bits, and the n lowest of those that it lacks
-unfoldable pub burntUpward : ℕ → ℕ → ℕ → ℕ
-burntUpward n old row = bitOr old (lowestBelow 24 n (bitAnd row (flipped old)))
 
 -- how far a rehearsal came: its rows, the pulses spent, the leading entries whose bits all stand
 pub record Progress : Type 0 where
@@ -57,7 +45,7 @@ rehearsed rows limit (e ∷ others) =
     if leb (writtenOver rows e .pulses) limit
     then after (writtenOver rows e .pulses) (rehearsed (withEntry rows e) (limit - writtenOver rows e .pulses) others)
     else record {
-      rows = set rows (e .row) (burntUpward limit (entry rows (e .row)) (writtenOver rows e .row));
+      rows = set rows (e .row) (burntUpward limit (rowAt rows (e .row)) (writtenOver rows e .row));
       pulses = limit;
       place = 0;
     }

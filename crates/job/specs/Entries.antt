@@ -1,9 +1,7 @@
 -- Job bytes: the head, and entries of six bytes (document 01, "Jobs").
 use Prim.Native.Nat.{ℕ, zero, suc, _+_, _*_}
-use mathlib.Core.Bool.{Bool, false, not, _&&_, _||_}
 use mathlib.Core.List.{List, [], _∷_}
-use lib.Dec.{eqb, ltb}
-use lib.ListN.{length, getD}
+use lib.ListN.{getD}
 use Rattle.job.specs.declared.entries.Entry.{Entry}
 
 -- the byte at a place
@@ -40,26 +38,3 @@ entriesFrom job i (suc others) = entryAt job i ∷ entriesFrom job (suc i) other
 -- all entries of a job
 abbrev pub entriesOf : List ℕ → List Entry
 entriesOf job = entriesFrom job 0 (countOf job)
-
--- a kind above 1, or an ECC value above 65,535
-unfoldable pub badEntry : Entry → Bool
-badEntry e = ltb 1 (e .kind) || (eqb (e .kind) 0 && ltb 65535 (e .value))
-
-unfoldable pub anyBad : List Entry → Bool
-anyBad [] = false
-anyBad (e ∷ others) = badEntry e || anyBad others
-
--- 10: short, mark, version, count, length, any kind or ECC value
-unfoldable pub malformed : List ℕ → Bool
-malformed job =
-    ltb (length job) 7
-    || not (eqb (byteAt job 0) 0x4f && eqb (byteAt job 1) 0x54 && eqb (byteAt job 2) 0x4a)
-    || not (eqb (versionOf job) 1)
-    || ltb 512 (countOf job)
-    || not (eqb (length job) (7 + 6 * countOf job))
-    || anyBad (entriesOf job)
-
--- 11: a row from 0xf40 up, or not above the row before it; `least` is the lowest row that may come next
-unfoldable pub outOfOrder : ℕ → List Entry → Bool
-outOfOrder least [] = false
-outOfOrder least (e ∷ others) = ltb 0xf3f (e .row) || ltb (e .row) least || outOfOrder (e .row + 1) others

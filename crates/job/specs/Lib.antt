@@ -1,4 +1,5 @@
 pub mod Entries
+pub mod Faults
 pub mod Verdicts
 pub mod Burning
 pub mod Jobs

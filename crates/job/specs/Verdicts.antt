@@ -1,17 +1,18 @@
 -- How a job is judged, whole, before the first pulse (document 01, "Jobs").
 use Prim.Native.Nat.{ℕ, _+_}
-use mathlib.Core.Bool.{Bool, not}
-use mathlib.Core.List.{List, [], _∷_}
-use lib.Dec.{eqb, ltb}
-use lib.ListN.{length}
+use mathlib.Core.Bool.{Bool, not, _&&_}
+use mathlib.Core.List.{List, [], _∷_, _++_}
+use lib.Dec.{eqb}
 use Rattle.row.specs.Choice.{if_then_else_}
 use Rattle.row.specs.Reading.{dataOf}
-use Rattle.row.specs.Writing.{eccWritten, rawWritten}
+use Rattle.row.specs.Rungs.{Rung, _when_, _ofEntry_, firstOf, placeOf}
+use Rattle.row.specs.Writing.{eccWritten, rawWritten, neitherFits}
 use Rattle.row.specs.declared.writing.Written.{Written}
-use Rattle.chip.specs.Lists.{entry}
 use Rattle.chip.specs.Permission.{mayWrite}
+use Rattle.chip.specs.Slices.{rowAt, notWhole, tooLarge}
 use Rattle.chip.specs.declared.state.State.{State}
-use Rattle.job.specs.Entries.{entriesOf, malformed, outOfOrder}
+use Rattle.job.specs.Entries.{entriesOf}
+use Rattle.job.specs.Faults.{malformed, outOfOrder}
 use Rattle.job.specs.declared.entries.Entry.{Entry}
 use Rattle.job.specs.declared.verdicts.Verdict.{Verdict}
 
@@ -19,28 +20,28 @@ use Rattle.job.specs.declared.verdicts.Verdict.{Verdict}
 unfoldable pub entryWritten : ℕ → Entry → Written
 entryWritten old e = if eqb (e .kind) 0 then eccWritten old (dataOf (e .value)) else rawWritten old (e .value)
 
--- an entry whose row may be written, or may not: 7, 3, 9
-abbrev pub numberIf : Bool → List ℕ → Entry → ℕ
-numberIf may rows e =
-    if not may then 7
-    else if ltb 16777215 (entry rows (e .row)) then 3
-    else entryWritten (entry rows (e .row)) e .number
+-- an ECC entry of which neither polarity fits
+abbrev pub unfit : ℕ → Entry → Bool
+unfit old e = eqb (e .kind) 0 && neitherFits old (dataOf (e .value))
 
--- jobs run as Secure
-unfoldable pub entryNumber : List ℕ → State → Entry → ℕ
-entryNumber rows state e = numberIf (mayWrite state 0 (e .row)) rows e
+-- the i-th entry, whose row may or may not be written: 7, 3, 9
+unfoldable pub entryRungs : List ℕ → Bool → ℕ → Entry → List Rung
+entryRungs rows may i e =
+    7 when not may ofEntry i ∷ 3 when tooLarge rows (e .row) ofEntry i ∷ 9 when unfit (rowAt rows (e .row)) e ofEntry i ∷ []
 
--- entries in order, the first of them the i-th: the first that is refused gives its number and its index
-unfoldable pub judgedFrom : List ℕ → State → ℕ → List Entry → Verdict
-judgedFrom rows state i [] = record { number = 0; place = 0 }
-judgedFrom rows state i (e ∷ others) =
-    if eqb (entryNumber rows state e) 0 then judgedFrom rows state (i + 1) others
-    else record { number = entryNumber rows state e; place = i }
+-- entries in order, the first of them the i-th; jobs run as Secure
+unfoldable pub allRungs : List ℕ → State → ℕ → List Entry → List Rung
+allRungs rows state i [] = []
+allRungs rows state i (e ∷ others) = entryRungs rows (mayWrite state 0 (e .row)) i e ++ allRungs rows state (i + 1) others
 
 -- a job judged whole
+abbrev pub jobRungs : List ℕ → State → List ℕ → List Rung
+jobRungs rows state job =
+    1 when notWhole rows ∷ 10 when malformed job ∷ 11 when outOfOrder job ∷ allRungs rows state 0 (entriesOf job)
+
+-- the number, and the place that goes with it
+abbrev pub verdict : List Rung → Verdict
+verdict rungs = record { number = firstOf rungs; place = placeOf rungs }
+
 unfoldable pub verdictOf : List ℕ → State → List ℕ → Verdict
-verdictOf rows state job =
-    if not (eqb (length rows) 4096) then record { number = 1; place = 0 }
-    else if malformed job then record { number = 10; place = 0 }
-    else if outOfOrder 0 (entriesOf job) then record { number = 11; place = 0 }
-    else judgedFrom rows state 0 (entriesOf job)
+verdictOf rows state job = verdict (jobRungs rows state job)

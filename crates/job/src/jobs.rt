@@ -3,24 +3,15 @@ ghost use mathlib.Core.Path.{_≡_};
 ghost use Rattle.job.specs.Jobs as spec;
 use crate::burning::rehearsed;
 use crate::entries::count_of;
+use crate::faults::MOST_ENTRIES;
 use crate::verdicts::verdict_of;
 use chip::state::Outcome;
 use chip::state::State;
-use row::answer::Answer;
-use row::answer::Condition;
+use row::answer::refused_at;
+use row::answer::spent;
 
-// The answer of a job: the number, a place and the pulses.
-pub fn answer_of(number: u32, place: u32, pulses: u32) -> Answer
-    ensures { λ r. ⌜ r ≡ spec.answerOf number place pulses ⌝ }
-{
-    Answer {
-        number,
-        value: 0,
-        condition: Condition::Clean,
-        place,
-        pulses,
-    }
-}
+// The longest job burns all 24 bits of each of its rows.
+const MOST_PULSES: u32 = 24 * MOST_ENTRIES;
 
 // Judges a job, and burns it until the pulses of the limit are spent.
 pub fn rehearse(rows: &mut [u32], state: State, job: &[u8], limit: u32) -> Outcome
@@ -32,20 +23,20 @@ pub fn rehearse(rows: &mut [u32], state: State, job: &[u8], limit: u32) -> Outco
     let verdict = verdict_of(rows, state, job);
     let number = verdict.number;
     if number != 0 {
-        let answer = answer_of(number, verdict.place, 0);
+        let answer = refused_at(number, verdict.place);
         return Outcome { answer, state };
     }
     let reached = rehearsed(rows, job, count_of(job), limit);
-    let answer = answer_of(0, reached.place, reached.pulses);
+    let answer = spent(reached.place, reached.pulses);
     Outcome { answer, state }
 }
 
-// Judges a job and burns it. A job of 512 entries takes at most 512 times 24 pulses.
+// Judges a job and burns it.
 pub fn run_job(rows: &mut [u32], state: State, job: &[u8]) -> Outcome
     ensures { λ r. ⌜
         (r ≡ spec.runJob (now (rows .entry)) state (now (job .entry)) .outcome)
         × (now (rows .exit) ≡ spec.runJob (now (rows .entry)) state (now (job .entry)) .rows)
         ⌝ }
 {
-    rehearse(rows, state, job, 12288)
+    rehearse(rows, state, job, MOST_PULSES)
 }

@@ -1,16 +1,18 @@
 // Judging a job whole, before the first pulse (document 01, "Jobs").
 ghost use mathlib.Core.Path.{_≡_};
-ghost use Rattle.job.specs.Entries.{entriesFrom};
+ghost use Rattle.row.specs.Rungs.{firstOf};
 ghost use Rattle.chip.specs.Permission.{mayWrite};
+ghost use Rattle.job.specs.Entries.{entriesFrom};
 ghost use Rattle.job.specs.Verdicts as spec;
 use crate::entries::Entry;
 use crate::entries::count_of;
 use crate::entries::entry_at;
-use crate::entries::malformed;
-use crate::entries::out_of_order;
-use crate::rows::entry_of;
+use crate::faults::fault_number;
+use crate::faults::fault_of;
+use access::rows::row_at;
 use chip::pages::Page;
 use chip::permission::may_write;
+use chip::permission::share_permission;
 use chip::state::State;
 use row::writing::Written;
 use row::writing::write_ecc;
@@ -34,37 +36,35 @@ pub fn entry_written(old: u32, entry: Entry) -> Written
 }
 
 // A row, and whether Secure may write it.
-struct Leave {
+struct Permit {
     row: u32,
     may: bool,
 }
 
-// Whether Secure may write a row. Rows of one page share the answer, and to look it up would be most of judging an entry: so that of the
-// row before is kept where it serves.
-fn leave_for(row: u32, before: Leave, state: State) -> Leave
+// Whether Secure may write a row. To look it up would be most of judging an entry: so that of the row before is kept where the two
+// share permission.
+fn permit_for(row: u32, before: Permit, state: State) -> Permit
     requires { ⌜ before .may ≡ mayWrite state 0 (before .row) ⌝ }
     ensures { λ r. ⌜ (r .row ≡ row) × (r .may ≡ mayWrite state 0 row) ⌝ }
 {
-    let page = Page::owner(row);
-    let page_before = Page::owner(before.row);
-    if page.number == page_before.number {
-        return Leave {
+    if share_permission(before.row, row) {
+        return Permit {
             row,
             may: before.may,
         };
     }
     let may = may_write(state, 0, row);
-    Leave { row, may }
+    Permit { row, may }
 }
 
 // The number of an entry whose row may be written, or may not.
-pub fn entry_number(rows: &[u32], may: bool, entry: Entry) -> u32
-    ensures { λ r. ⌜ r ≡ spec.numberIf may (now (rows .entry)) entry ⌝ }
+fn entry_number(rows: &[u32], may: bool, entry: Entry) -> u32
+    ensures { λ r. ⌜ r ≡ firstOf (spec.entryRungs (now (rows .entry)) may 0 entry) ⌝ }
 {
     if !may {
         return 7;
     }
-    let old = entry_of(rows, entry.row);
+    let old = row_at(rows, entry.row);
     if 16777215 < old {
         return 3;
     }
@@ -73,16 +73,16 @@ pub fn entry_number(rows: &[u32], may: bool, entry: Entry) -> u32
 }
 
 // The entries in order: the first that is refused gives its number and its index.
-pub fn judged(rows: &[u32], state: State, job: &[u8], count: u32) -> Verdict
-    ensures { λ r. ⌜ r ≡ spec.judgedFrom (now (rows .entry)) state 0 (entriesFrom (now (job .entry)) 0 count) ⌝ }
+fn judged(rows: &[u32], state: State, job: &[u8], count: u32) -> Verdict
+    ensures { λ r. ⌜ r ≡ spec.verdict (spec.allRungs (now (rows .entry)) state 0 (entriesFrom (now (job .entry)) 0 count)) ⌝ }
 {
     let may = may_write(state, 0, 0);
-    let mut leave = Leave { row: 0, may };
+    let mut permit = Permit { row: 0, may };
     let mut i = 0;
     while i < count {
         let entry = entry_at(job, i);
-        let next = leave_for(entry.row, leave, state);
-        leave = next;
+        let next = permit_for(entry.row, permit, state);
+        permit = next;
         let number = entry_number(rows, next.may, entry);
         if number != 0 {
             return Verdict { number, place: i };
@@ -99,24 +99,15 @@ pub fn judged(rows: &[u32], state: State, job: &[u8], count: u32) -> Verdict
 pub fn verdict_of(rows: &[u32], state: State, job: &[u8]) -> Verdict
     ensures { λ r. ⌜ r ≡ spec.verdictOf (now (rows .entry)) state (now (job .entry)) ⌝ }
 {
-    if rows.len() != 4096 {
+    if rows.len() != Page::CHIP_ROWS {
         return Verdict {
             number: 1,
             place: 0,
         };
     }
-    if malformed(job) {
-        return Verdict {
-            number: 10,
-            place: 0,
-        };
+    let number = fault_number(fault_of(job));
+    if number != 0 {
+        return Verdict { number, place: 0 };
     }
-    let count = count_of(job);
-    if out_of_order(job, count) {
-        return Verdict {
-            number: 11,
-            place: 0,
-        };
-    }
-    judged(rows, state, job, count)
+    judged(rows, state, job, count_of(job))
 }

@@ -9,7 +9,7 @@ use lib.Bits.{and-comm, and-le-r}
 use lib.ListN.{length, set}
 use lib.Seq.{set-getD}
 use Rattle.row.specs.Writing.{pulses}
-use Rattle.chip.specs.Lists.{entry}
+use Rattle.chip.specs.Slices.{rowAt}
 use Rattle.laws.specs.Writes.{In}
 use Rattle.laws.specs.Votes.{EachIn}
 use Rattle.laws.specs.Cuts.{newlySet}
@@ -40,14 +40,14 @@ pub each-length : {a b : List ℕ} → EachIn a b → length a ≡ length b
 each-length EachIn.none = refl
 each-length (EachIn.more one rest) = ap suc (each-length rest)
 
-pub each-at : {a b : List ℕ} (k : ℕ) → EachIn a b → In (entry a k) (entry b k)
+pub each-at : {a b : List ℕ} (k : ℕ) → EachIn a b → In (rowAt a k) (rowAt b k)
 each-at k EachIn.none = inItself 0
 each-at zero (EachIn.more one rest) = one
 each-at (suc k) (EachIn.more one rest) = each-at k rest
 
 -- a row that is the same in the slice above is the same between
-pub each-held : {a b c : List ℕ} (k : ℕ) → EachIn a b → EachIn b c → entry c k ≡ entry a k → entry b k ≡ entry a k
-each-held {a} {b} k over under e = in-both (entry b k) (entry a k) (rw e at (each-at k under)) (each-at k over)
+pub each-held : {a b c : List ℕ} (k : ℕ) → EachIn a b → EachIn b c → rowAt c k ≡ rowAt a k → rowAt b k ≡ rowAt a k
+each-held {a} {b} k over under e = in-both (rowAt b k) (rowAt a k) (rw e at (each-at k under)) (each-at k over)
 
 -- ---- a row put in
 
@@ -56,11 +56,11 @@ each-set k old new EachIn.none one = EachIn.none
 each-set zero old new (EachIn.more first rest) one = EachIn.more one rest
 each-set (suc k) old new (EachIn.more first rest) one = EachIn.more first (each-set k old new rest one)
 
-pub each-over : (rows : List ℕ) (k new : ℕ) → In (entry rows k) new → EachIn rows (set rows k new)
-each-over rows k new one = rw (set-getD rows k 0) at (each-set k (entry rows k) new (each-self rows) one)
+pub each-over : (rows : List ℕ) (k new : ℕ) → In (rowAt rows k) new → EachIn rows (set rows k new)
+each-over rows k new one = rw (set-getD rows k 0) at (each-set k (rowAt rows k) new (each-self rows) one)
 
-pub each-under : {a b : List ℕ} (k old : ℕ) → EachIn a b → In old (entry b k) → EachIn (set a k old) b
-each-under {a} {b} k old each one = rw (set-getD b k 0) at (each-set k old (entry b k) each one)
+pub each-under : {a b : List ℕ} (k old : ℕ) → EachIn a b → In old (rowAt b k) → EachIn (set a k old) b
+each-under {a} {b} k old each one = rw (set-getD b k 0) at (each-set k old (rowAt b k) each one)
 
 -- ---- the bits newly set
 
@@ -75,7 +75,7 @@ unfolding newlySet
 new-none [] = refl
 new-none (row ∷ rows) = omega (arith, standsAlready row, new-none rows)
 
-pub new-set : (rows : List ℕ) (k new : ℕ) → k < length rows → newlySet rows (set rows k new) ≡ pulses (entry rows k) new
+pub new-set : (rows : List ℕ) (k new : ℕ) → k < length rows → newlySet rows (set rows k new) ≡ pulses (rowAt rows k) new
 unfolding newlySet
 new-set [] k new h = absurd (not-suc-le-zero h)
 new-set (row ∷ rows) zero new h = omega (arith, new-none rows)

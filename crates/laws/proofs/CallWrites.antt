@@ -1,8 +1,8 @@
 -- The writes as calls: what they leave reads back, a raw write adds its bits, and when an ECC write is refused with 9.
 -- Assumes nothing.
-use mathlib.Core.Bool.{Bool, true, false, not, _||_}
-use mathlib.Core.List.{List}
-use mathlib.Core.Path.{_≡_, refl, sym, _∙_}
+use mathlib.Core.Bool.{Bool, true, false, not}
+use mathlib.Core.List.{List, [], _∷_}
+use mathlib.Core.Path.{_≡_, refl, sym, ap, _∙_}
 use Prim.Native.Nat.{ℕ, _^_, _≤_, _<_}
 use native.Mathlib.Omega.{arith}
 use borrow.Author.Tests.{eqb-true, eqb-false, eq-eqb, ltb-false}
@@ -10,20 +10,23 @@ use lib.Dec.{eqb, ltb, lit≤}
 use lib.ListN.{length, set}
 use lib.Seq.{getD-set-same}
 use Rattle.row.specs.Choice.{if_then_else_}
-use Rattle.row.specs.Writing.{eccWritten, rawWritten}
+use Rattle.row.specs.Rungs.{Rung, _when_, firstOf, orElse}
+use Rattle.row.specs.Writing.{eccWritten, rawWritten, neitherFits}
 use Rattle.row.specs.declared.writing.Written.{Written}
 use Rattle.chip.specs.Keys.{hidden}
-use Rattle.chip.specs.Lists.{entry}
+use Rattle.chip.specs.Slices.{rowAt, notWhole, tooLarge}
 use Rattle.chip.specs.Pages.{isLockRow}
 use Rattle.chip.specs.Permission.{mayWrite}
 use Rattle.chip.specs.declared.state.State.{State}
-use Rattle.access.specs.Judging.{ecc, rowNumber}
+use Rattle.access.specs.Burning.{Left, oneRow}
+use Rattle.access.specs.Judging.{ecc, rowRungs, callRungs}
 use Rattle.access.specs.Reads.{readEcc}
-use Rattle.access.specs.Writes.{Left, leaves, writeRawNumber, writeEccAllowed, writeEccNumber, writeRaw, writeEcc}
-use Rattle.access.proofs.Passing.{row-passed}
-use Rattle.laws.specs.Promises.{WriteReadsBack, RawAdds, NineOfCall, OneBitNeverNine}
+use Rattle.access.specs.Writes.{writeRawNumber, writeEccNumber, writeRaw, writeEcc}
+use Rattle.access.proofs.Passing.{call-passed}
+use Rattle.laws.specs.Promises.{WriteReadsBack, RawAdds, eccAllowed, NineOfCall, OneBitNeverNine}
 use Rattle.laws.specs.Reads.{Value}
-use Rattle.laws.proofs.Choices.{both-ways, own-number}
+use Rattle.row.proofs.Ladders.{refusing, then-rungs, nine}
+use Rattle.row.proofs.Choices.{both-ways, own-number}
 use Rattle.laws.proofs.Writes.{readsBack, nineExactly, oneBitFits}
 
 abbrev numberOf : Left → ℕ
@@ -39,8 +42,8 @@ second-step first second number other = go (eqb first 0) refl
     go false e same = absurd (eqb-false first 0 e (other same))
 
 -- a write that is done leaves its row burnt
-left-rows : (rows : List ℕ) (state : State) (row number : ℕ) (written : Written) → numberOf (leaves number rows state row written) ≡ 0
-    → (number ≡ 0) × (leaves number rows state row written .rows ≡ set rows row (written .row))
+left-rows : (rows : List ℕ) (state : State) (row number : ℕ) (written : Written) → numberOf (oneRow number rows state row written) ≡ 0
+    → (number ≡ 0) × (oneRow number rows state row written .rows ≡ set rows row (written .row))
 left-rows rows state row number written e =
     let none : number ≡ 0 = sym (own-number numberOf number _ _ refl refl) ∙ e in
     (none, rw (eq-eqb number 0 none))
@@ -48,39 +51,49 @@ left-rows rows state row number written e =
 pub rawAdds : RawAdds
 unfolding writeRaw
 rawAdds rows state caller row value done =
-    left-rows rows state row (writeRawNumber rows state caller row value) (rawWritten (entry rows row) value) done .1
+    left-rows rows state row (writeRawNumber rows state caller row value) (rawWritten (rowAt rows row) value) done .1
 
 module _ (rows : List ℕ) (state : State) (caller row value : ℕ) where
+  abbrev rungs : List Rung
+  rungs = callRungs rows state caller row ecc (ltb 65535 value) (mayWrite state caller row)
+
   abbrev first : ℕ
-  first = writeEccAllowed rows state caller row value
+  first = firstOf rungs
 
   abbrev written : Written
-  written = eccWritten (entry rows row) value
+  written = eccWritten (rowAt rows row) value
 
   -- what is known of an ECC write that gets as far as its row
-  allowed : first ≡ 0 → (row < length rows) × Value value × (entry rows row < 2 ^ 24)
+  allowed : first ≡ 0 → (row < length rows) × Value value × (rowAt rows row < 2 ^ 24)
   allowed e =
-      let passed = row-passed rows state caller row ecc (ltb 65535 value) (mayWrite state caller row) e in
+      let passed = call-passed rows state caller row ecc (ltb 65535 value) (mayWrite state caller row) e in
       let small : value ≤ 65535 = ltb-false 65535 value (passed .1) in
-      let in-range : entry rows row ≤ 16777215 = passed .2 in
+      let in-range : rowAt rows row ≤ 16777215 = passed .2 in
       (passed .0, omega arith, omega arith)
 
-  ecc-number : numberOf (writeEcc rows state caller row value) ≡ (if eqb first 0 then written .number else first)
+  -- its number is that of the tests before, or else the row's own
+  two-steps : writeEccNumber rows state caller row value ≡ orElse first (written .number)
+  unfolding callRungs rowRungs refusing
+  two-steps =
+      then-rungs rungs (9 when neitherFits (rowAt rows row) value ∷ []) tt ∙ ap (orElse first) (sym (nine (rowAt rows row) value))
+
+  ecc-number : numberOf (writeEcc rows state caller row value) ≡ orElse first (written .number)
   unfolding writeEcc
-  ecc-number = own-number numberOf (writeEccNumber rows state caller row value) _ _ refl refl
+  ecc-number = own-number numberOf (writeEccNumber rows state caller row value) _ _ refl refl ∙ two-steps
 
   -- no test before the row is used gives 9
   below-nine : first ≤ 7
-  unfolding rowNumber
+  unfolding callRungs rowRungs
   below-nine =
       let low : ℕ → Type 0 = λ n. n ≤ 7 in
-      both-ways low (not (eqb (length rows) 4096)) _ _ (lit≤ tt)
-      (both-ways low (ltb 1 caller || ltb 65535 value) _ _ (lit≤ tt)
+      both-ways low (notWhole rows) _ _ (lit≤ tt)
+      (both-ways low (ltb 1 caller) _ _ (lit≤ tt)
+      (both-ways low (ltb 65535 value) _ _ (lit≤ tt)
       (both-ways low (ltb 4095 row) _ _ (lit≤ tt)
       (both-ways low (isLockRow row) _ _ (lit≤ tt)
       (both-ways low (hidden state row) _ _ (lit≤ tt)
       (both-ways low (not (mayWrite state caller row)) _ _ (lit≤ tt)
-      (both-ways low (ltb 16777215 (entry rows row)) _ _ (lit≤ tt) (lit≤ tt)))))))
+      (both-ways low (tooLarge rows row) _ _ (lit≤ tt) (lit≤ tt))))))))
 
   nine-by-row : numberOf (writeEcc rows state caller row value) ≡ 9 → (first ≡ 0) × (written .number ≡ 9)
   nine-by-row nine = second-step first (written .number) 9 (λ e. absurd (omega (arith, below-nine))) (sym ecc-number ∙ nine)
@@ -89,25 +102,25 @@ pub nineOfCall : NineOfCall
 nineOfCall rows state caller row value = (
   λ nine.
       let by-row = nine-by-row rows state caller row value nine in
-      let neither = nineExactly (entry rows row) value .0 (by-row .1) in
+      let neither = nineExactly (rowAt rows row) value .0 (by-row .1) in
       (by-row .0, neither .0, neither .1),
   λ so.
       ecc-number rows state caller row value
-      ∙ rw (eq-eqb (writeEccAllowed rows state caller row value) 0 (so .0)) (nineExactly (entry rows row) value .1 (so .1, so .2)),
+      ∙ rw (eq-eqb (eccAllowed rows state caller row value) 0 (so .0)) (nineExactly (rowAt rows row) value .1 (so .1, so .2)),
 )
 
 pub oneBitNeverNine : OneBitNeverNine
 oneBitNeverNine rows state caller row value few nine =
     let by-row = nine-by-row rows state caller row value nine in
     let used = allowed rows state caller row value (by-row .0) in
-    omega (arith, by-row .1, oneBitFits (entry rows row) value (used .2) (used .1) few)
+    omega (arith, by-row .1, oneBitFits (rowAt rows row) value (used .2) (used .1) few)
 
 pub writeReadsBack : WriteReadsBack
 unfolding writeEcc readEcc
 writeReadsBack rows state writer reader row value done readable =
-    let old : ℕ = entry rows row in
+    let old : ℕ = rowAt rows row in
     let left = left-rows rows state row (writeEccNumber rows state writer row value) (eccWritten old value) done in
-    let by-row = second-step (writeEccAllowed rows state writer row value) (eccWritten old value .number) 0 (λ e. e) (left .0) in
+    let by-row = second-step (eccAllowed rows state writer row value) (eccWritten old value .number) 0 (λ e. e) (sym (two-steps rows state writer row value) ∙ left .0) in
     let used = allowed rows state writer row value (by-row .0) in
     rw (eq-eqb _ 0 readable, left .1, getD-set-same rows row (eccWritten old value .row) 0 (used .0))
     (readsBack old value (used .1) (by-row .1))

@@ -4,18 +4,21 @@ use mathlib.Core.List.{List}
 use mathlib.Core.Path.{_≡_, sym, ap, ap₂, _∙_}
 use Prim.Native.Nat.{ℕ, _+_}
 use lib.ListN.{length}
-use Rattle.chip.specs.Calls.{resetNumber}
+use Rattle.chip.specs.Resetting.{resetNumber}
 use Rattle.chip.specs.declared.state.State.{State}
-use Rattle.access.specs.Writes.{Left}
+use Rattle.access.specs.Burning.{Left}
 use Rattle.job.specs.Burning.{writtenOver, withEntry, allWritten}
 use Rattle.job.specs.Entries.{entriesOf}
 use Rattle.job.specs.Jobs.{runJob}
+use Rattle.job.specs.Verdicts.{verdictOf}
 use Rattle.job.specs.declared.entries.Entry.{Entry}
+use Rattle.job.specs.declared.verdicts.Verdict.{Verdict}
 use Rattle.laws.specs.Votes.{EachIn}
 use Rattle.laws.specs.Cuts.{ready, CutOf, newlySet, Cuts, CutPower, PulsesAreNewBits}
 use Rattle.laws.proofs.Between.{each-self, each-through, each-length, each-set, each-over, each-held, new-through, new-none}
 use Rattle.laws.proofs.Rewriting.{Admitted, with-keeps, all-keep, outside, all-pulses, again}
-use Rattle.laws.proofs.Latches.{reset-done, ready-same}
+use Rattle.laws.proofs.Agreement.{AgreeToWrite, same-verdict}
+use Rattle.laws.proofs.Latches.{reset-done, ready-agree}
 use Rattle.laws.proofs.Ranges.{range-under, range-written}
 use Rattle.laws.proofs.Acceptance.{ran, Accepted, accepted-verdict, accepted-on}
 
@@ -52,8 +55,7 @@ module _ {rows left : List ℕ} {state : State} {job : List ℕ} (a : Accepted r
   accepted-again = record {
     whole = sym (each-length over) ∙ a .whole;
     small = range-under under (range-written (entriesOf job) (a .admitted) (a .small));
-    formed = a .formed;
-    order = a .order;
+    sound = a .sound;
     admitted = again (entriesOf job) (a .whole) (a .admitted) over under .0;
   }
 
@@ -77,15 +79,16 @@ cutPower rows left before later key job spent bytes accept cuts =
     let next = accepted-again first (between .0) (between .1) in
     let same = same-rows first (between .0) (between .1) in
     let done : resetNumber left ≡ 0 = reset-done left (next .whole) (next .small) in
-    let state : ready left later key ≡ ready rows before key =
-    ready-same rows left before later key (accept .0) done
+    let agree : AgreeToWrite 0 (ready left later key) (ready rows before key) =
+    ready-agree rows left before later key (accept .0) done
     (λ k high. each-held k (between .0) (between .1) (outside (entriesOf job) k (first .admitted) (λ low. high))) in
-    let run = ran left (ready rows before key) job (accepted-verdict next) in
-    rw state (
+    let verdict : verdictOf left (ready left later key) job .number ≡ 0 =
+    ap (λ (v : Verdict). v .number) (same-verdict left (ready left later key) (ready rows before key) agree job) ∙ accepted-verdict next in
+    let run = ran left (ready left later key) job verdict in (
       (done, ap (λ (l : Left). l .outcome .answer .number) run),
       ap (λ (l : Left). l .rows) run ∙ same,
       ap (λ (l : Left). l .rows) (ran rows (ready rows before key) job (accepted-verdict first)),
-      ap₂ _+_ (between .2) (pulses-new next ∙ ap (newlySet left) same)
+      ap₂ _+_ (between .2) (ap (λ (l : Left). l .outcome .answer .pulses) run ∙ all-pulses (entriesOf job) (next .whole) (next .admitted) ∙ ap (newlySet left) same)
           ∙ new-through (between .0) (between .1)
           ∙ sym (pulses-new first),
     )

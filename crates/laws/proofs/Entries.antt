@@ -18,7 +18,9 @@ use Rattle.job.specs.Verdicts.{entryWritten}
 use Rattle.job.specs.declared.entries.Entry.{Entry}
 use Rattle.laws.specs.Reads.{Value}
 use Rattle.laws.specs.Writes.{In}
-use Rattle.laws.proofs.Writes.{Ecc, written, keepsBits, sameEcc, sameRaw, standsAlready}
+use Rattle.row.specs.Upward.{burntUpward}
+use Rattle.row.proofs.Places.{and-or}
+use Rattle.laws.proofs.Writes.{in-shared, Ecc, written, keepsBits, sameEcc, sameRaw, standsAlready}
 
 -- ---- an ECC write
 
@@ -74,3 +76,8 @@ entry-again old between e =
     (λ write. write old .number ≡ 0 → In old between → In between (write old .row)
     → (write between .number ≡ 0) × (write between .row ≡ write old .row))
     (sameEcc old between (dataOf (e .value))) (λ done over under. (refl, sameRaw old between (e .value) over under))
+
+-- burnt for some of its pulses only, it keeps the old bits too
+pub burnt-over : (n old row : ℕ) → In old (burntUpward n old row)
+unfolding burntUpward
+burnt-over n old row = in-shared old _ (and-or old _)

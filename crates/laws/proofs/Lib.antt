@@ -3,7 +3,6 @@ pub mod Codes
 pub mod Reading
 pub mod Writes
 pub mod Votes
-pub mod Choices
 pub mod Numbers
 pub mod Refusals
 pub mod Burning
@@ -15,5 +14,6 @@ pub mod Rewriting
 pub mod Latches
 pub mod Ranges
 pub mod Acceptance
+pub mod Agreement
 pub mod CutPower
 pub mod RehearsalCut

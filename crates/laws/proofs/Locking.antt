@@ -10,14 +10,15 @@ use borrow.Author.Tests.{eq-eqb, leb-false}
 use lib.Dec.{eqb, leb}
 use lib.ListN.{set}
 use Rattle.row.specs.Choice.{if_then_else_}
-use Rattle.chip.specs.Calls.{resetNumber, reset, shownLevel, advanceNumber, withLevel, advanced, advance, enterNumber, enterKey}
+use Rattle.chip.specs.Resetting.{resetNumber, reset}
+use Rattle.chip.specs.Calls.{shownLevel, advanceNumber, withLevel, advanced, advance, enterNumber, enterKey}
 use Rattle.chip.specs.States.{countedLevel, withSecure, withNonsecure}
 use Rattle.chip.specs.declared.state.State.{State}
 use Rattle.chip.specs.declared.state.Outcome.{Outcome}
 use Rattle.laws.specs.Calls.{Chip, Call, aReset, aRawRead, anEccRead, aVote, aRawWrite, anEccWrite, anAdvance, aShow, aKey, aJob, aRehearsal, perform, performAll}
 use Rattle.laws.specs.Promises.{NoReset, NoLockFalls, Burns, SoftLocksFallBack}
 use Rattle.laws.proofs.Burning.{burningLatchesNothing}
-use Rattle.laws.proofs.Choices.{both-ways}
+use Rattle.row.proofs.Choices.{both-ways}
 
 pub softLocksFallBack : SoftLocksFallBack
 unfolding reset

@@ -8,8 +8,8 @@ use native.Mathlib.Omega.{arith}
 use borrow.Author.Tests.{leb-true, le-leb}
 use lib.Dec.{leb}
 use lib.ListN.{set}
-use Rattle.chip.specs.Latching.{allInRange}
-use Rattle.chip.specs.Lists.{entry}
+use Rattle.chip.specs.Resetting.{allInRange}
+use Rattle.chip.specs.Slices.{rowAt}
 use Rattle.chip.specs.declared.state.State.{State}
 use Rattle.job.specs.Burning.{writtenOver, allWritten}
 use Rattle.job.specs.declared.entries.Entry.{Entry}
@@ -40,6 +40,6 @@ unfolding allWritten
 range-written [] Admitted.none small = small
 range-written {rows} {state} (e ∷ others) (Admitted.more low high value done rest) small =
     let new : ℕ = writtenOver rows e .row in
-    let old-low : entry rows (e .row) ≤ 16777215 = judged-done rows state e done .1 in
-    let new-low : new < 2 ^ 24 = entry-small (entry rows (e .row)) e (omega arith) value in
+    let old-low : rowAt rows (e .row) ≤ 16777215 = judged-done rows state e done .1 in
+    let new-low : new < 2 ^ 24 = entry-small (rowAt rows (e .row)) e (omega arith) value in
     range-written others (admitted-next (e .row) new rest) (range-set rows (e .row) new small (omega arith))

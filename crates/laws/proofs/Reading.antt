@@ -20,9 +20,10 @@ use Rattle.row.specs.declared.answer.Condition.the-variants.{Clean, Repaired}
 use Rattle.row.proofs.Codes.{code-data, code-lt}
 use Rattle.row.proofs.Counts.{ones-split, ZeroOrPower, one-set}
 use Rattle.row.proofs.Digits.{at-below, at-digits2, equal2}
+use Rattle.row.proofs.Ladders.{read-or-8}
 use Rattle.row.proofs.Places.{xor-right-comm}
 use Rattle.row.proofs.Syndromes.{xor-cancel, xor-cancel-left, xor-none, syndrome, data-lt, syndrome-linear, code-syndrome, columns, placeBelow, decoded-by-syndrome}
-use Rattle.laws.specs.Reads.{Value, looked, Near, ZeroOrEight, Sound, Complete, EightExactly, ConditionNames, Corrected, PlainFlag, InvertedFlag}
+use Rattle.laws.specs.Reads.{Value, looked, Near, OneValue, ZeroOrEight, Sound, Complete, EightExactly, ConditionNames, Corrected, PlainFlag, InvertedFlag}
 
 -- ---- the bits that are looked at
 
@@ -119,21 +120,11 @@ read bits = go (isCode bits) refl
 -- ---- the promises
 
 pub zeroOrEight : ZeroOrEight
-zeroOrEight row = go (read (looked row))
+zeroOrEight row = go (read-or-8 row)
   where
-    go : {answer : Answer} → Read (looked row) answer → (answer .number ≡ 0) ⊎ (answer .number ≡ 8)
-    go (clean value h e) = inl refl
-    go (repaired value place h l e) = inl refl
-    go nothing = inr refl
-
--- a row's own refusal is with 8
-pub refused-with-8 : (row : ℕ) → (readRow row .number ≡ 0 → ⊥) → readRow row ≡ refused 8
-refused-with-8 row = go (read (looked row))
-  where
-    go : {answer : Answer} → Read (looked row) answer → (answer .number ≡ 0 → ⊥) → answer ≡ refused 8
-    go (clean value h e) not-done = absurd (not-done refl)
-    go (repaired value place h l e) not-done = absurd (not-done refl)
-    go nothing not-done = refl
+    go : (readRow row .number ≡ 0) ⊎ (readRow row ≡ refused 8) → (readRow row .number ≡ 0) ⊎ (readRow row .number ≡ 8)
+    go (inl done) = inl done
+    go (inr eight) = inr (ap (λ (a : Answer). a .number) eight)
 
 -- some bits and the same with one of them flipped
 one-away : (place bits : ℕ) → place < 22 → distance bits (flippedAt place bits) ≤ 1
@@ -179,6 +170,9 @@ pub complete : Complete
 complete row value near =
     let near-read = found-near (looked row) value (mod-lt (upright row) (pow-pos 22)) (near .0) (near .1) in
     rw (near-read .1) (refl, refl)
+
+pub oneValue : OneValue
+oneValue row a b near-a near-b = sym (complete row a near-a .1) ∙ complete row b near-b .1
 
 pub eightExactly : EightExactly
 eightExactly row = (

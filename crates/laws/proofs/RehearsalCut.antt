@@ -10,33 +10,30 @@ use lib.Bits.{bitAnd, bitOr, differ}
 use lib.Dec.{leb}
 use lib.ListN.{length, set, length-set}
 use Rattle.row.specs.Code.{setBits, flipped}
+use Rattle.row.specs.Upward.{burntUpward}
 use Rattle.row.specs.Voting.{bitAt}
 use Rattle.row.specs.Writing.{pulses}
 use Rattle.row.proofs.Counts.{ones-same}
 use Rattle.row.proofs.Digits.{equal3}
-use Rattle.row.proofs.Places.{bit-lt, bit-and, bit-or, bit-xor, by-digits, and-assoc, and-or}
-use Rattle.chip.specs.Lists.{entry}
+use Rattle.row.proofs.Places.{bit-lt, bit-and, bit-or, bit-xor, by-digits, and-assoc}
+use Rattle.chip.specs.Slices.{rowAt}
 use Rattle.chip.specs.declared.state.State.{State}
-use Rattle.job.specs.Burning.{Progress, writtenOver, withEntry, burntUpward, rehearsed}
+use Rattle.job.specs.Burning.{Progress, writtenOver, withEntry, rehearsed}
 use Rattle.job.specs.Entries.{entriesOf}
 use Rattle.job.specs.Jobs.{rehearse}
 use Rattle.job.specs.Verdicts.{verdictOf}
 use Rattle.job.specs.declared.entries.Entry.{Entry}
-use Rattle.job.proofs.Lowest.{lowest-masked}
+use Rattle.row.proofs.Lowest.{lowest-masked}
 use Rattle.laws.specs.Writes.{In}
 use Rattle.laws.specs.Cuts.{ready, CutOf, newlySet, RehearsalCuts}
 use Rattle.laws.proofs.Writes.{shared, in-shared, all-set}
 use Rattle.laws.proofs.Between.{new-through, new-none, new-set}
-use Rattle.laws.proofs.Entries.{entry-keeps, entry-pulses}
+use Rattle.laws.proofs.Entries.{entry-keeps, entry-pulses, burnt-over}
 use Rattle.laws.proofs.Rewriting.{Admitted, admitted-next, with-keeps}
 use Rattle.laws.proofs.Acceptance.{carried, accepted-verdict, accepted-on}
 use Rattle.laws.proofs.CutPower.{cut-between}
 
 -- ---- a row burnt for some of its pulses
-
-burnt-over : (n old row : ℕ) → In old (burntUpward n old row)
-unfolding burntUpward
-burnt-over n old row = in-shared old _ (and-or old _)
 
 module _ (n old row : ℕ) (enough : n ≤ pulses old row) where
   some-burnt : (mask : ℕ) × (burntUpward n old row ≡ bitOr old (bitAnd (bitAnd row (flipped old)) mask))
@@ -84,7 +81,7 @@ rehearsed-cut {rows} limit (e ∷ others) whole (Admitted.more low high small do
     (length-set rows (e .row) (writtenOver rows e .row) ∙ whole) (admitted-next (e .row) (writtenOver rows e .row) rest))
   where
     old : ℕ
-    old = entry rows (e .row)
+    old = rowAt rows (e .row)
 
     new : ℕ
     new = writtenOver rows e .row

@@ -6,15 +6,16 @@ use mathlib.Core.Path.{_≡_, refl, sym, ap, ap₂, _∙_}
 use Prim.Native.Nat.{ℕ, _+_, _^_, _≤_, _<_}
 use native.Mathlib.Omega.{arith}
 use borrow.Author.Tests.{ltb-false, le-ltb}
-use lib.Dec.{ltb}
 use lib.ListN.{length, set, length-set}
 use lib.Seq.{getD-set-same, getD-set-other}
-use Rattle.chip.specs.Lists.{entry}
+use Rattle.row.specs.Rungs.{firstOf}
+use Rattle.chip.specs.Slices.{rowAt, tooLarge}
 use Rattle.chip.specs.Permission.{mayWrite}
 use Rattle.chip.specs.declared.state.State.{State}
-use Rattle.chip.proofs.Ladders.{passed}
+use Rattle.row.proofs.Ladders.{passed}
 use Rattle.job.specs.Burning.{writtenOver, withEntry, allWritten, allPulses}
-use Rattle.job.specs.Verdicts.{entryNumber}
+use Rattle.job.specs.Verdicts.{entryRungs}
+use Rattle.job.proofs.Fitting.{entry-nine}
 use Rattle.job.specs.declared.entries.Entry.{Entry}
 use Rattle.laws.specs.Votes.{EachIn}
 use Rattle.laws.specs.Cuts.{newlySet}
@@ -24,6 +25,10 @@ use Rattle.laws.proofs.Entries.{entry-keeps, entry-pulses, entry-small,
 
 -- ---- entries that are accepted over a slice
 
+-- the number of an entry that Secure would write
+abbrev pub entryNumber : List ℕ → State → Entry → ℕ
+entryNumber rows state e = firstOf (entryRungs rows (mayWrite state 0 (e .row)) 0 e)
+
 -- their rows rise from the least, below 0xf40, their values have 24 bits, and each is judged 0
 pub data Admitted (rows : List ℕ) (state : State) : ℕ → List Entry → Type 0 where
   none : {least : ℕ} → Admitted rows state least []
@@ -31,23 +36,24 @@ pub data Admitted (rows : List ℕ) (state : State) : ℕ → List Entry → Typ
       → entryNumber rows state e ≡ 0 → Admitted rows state (e .row + 1) others → Admitted rows state least (e ∷ others)
 
 pub judged-done : (rows : List ℕ) (state : State) (e : Entry) → entryNumber rows state e ≡ 0
-    → (not (mayWrite state 0 (e .row)) ≡ false) × (entry rows (e .row) ≤ 16777215) × (writtenOver rows e .number ≡ 0)
-unfolding entryNumber
+    → (not (mayWrite state 0 (e .row)) ≡ false) × (rowAt rows (e .row) ≤ 16777215) × (writtenOver rows e .number ≡ 0)
+unfolding entryRungs
 judged-done rows state e done =
     let seven = passed (not (mayWrite state 0 (e .row))) 6 _ done in
-    let three = passed (ltb 16777215 (entry rows (e .row))) 2 _ (seven .1) in
-    (seven .0, ltb-false 16777215 (entry rows (e .row)) (three .0), three .1)
+    let three = passed (tooLarge rows (e .row)) 2 _ (seven .1) in
+    (seven .0, ltb-false 16777215 (rowAt rows (e .row)) (three .0), entry-nine (rowAt rows (e .row)) e ∙ three .1)
 
 done-judged : (rows : List ℕ) (state : State) (e : Entry)
-    → not (mayWrite state 0 (e .row)) ≡ false → entry rows (e .row) ≤ 16777215 → writtenOver rows e .number ≡ 0
+    → not (mayWrite state 0 (e .row)) ≡ false → rowAt rows (e .row) ≤ 16777215 → writtenOver rows e .number ≡ 0
     → entryNumber rows state e ≡ 0
-unfolding entryNumber
-done-judged rows state e may small done = rw (may, le-ltb 16777215 (entry rows (e .row)) small) done
+unfolding entryRungs
+done-judged rows state e may small done =
+    rw (may, le-ltb 16777215 (rowAt rows (e .row)) small) (sym (entry-nine (rowAt rows (e .row)) e) ∙ done)
 
 -- only the rows from the least on count
 admitted-agrees : {rows left : List ℕ} {state : State} {least : ℕ} {es : List Entry} → Admitted rows state least es
-    → ((k : ℕ) → least ≤ k → entry left k ≡ entry rows k) → Admitted left state least es
-unfolding entryNumber
+    → ((k : ℕ) → least ≤ k → rowAt left k ≡ rowAt rows k) → Admitted left state least es
+unfolding entryRungs
 admitted-agrees Admitted.none same = Admitted.none
 admitted-agrees {left} {state} (Admitted.more {e} low high small done rest) same =
     let still : entryNumber left state e ≡ 0 = rw (same (e .row) low) done in
@@ -61,7 +67,7 @@ admitted-next {rows} at new rest = admitted-agrees rest (λ k l. getD-set-other 
 -- ---- the rows that they leave
 
 pub with-keeps : (rows : List ℕ) (e : Entry) → EachIn rows (withEntry rows e)
-with-keeps rows e = each-over rows (e .row) (writtenOver rows e .row) (entry-keeps (entry rows (e .row)) e)
+with-keeps rows e = each-over rows (e .row) (writtenOver rows e .row) (entry-keeps (rowAt rows (e .row)) e)
 
 pub all-keep : (es : List Entry) (rows : List ℕ) → EachIn rows (allWritten rows es)
 unfolding allWritten
@@ -70,7 +76,7 @@ all-keep (e ∷ others) rows = each-through (with-keeps rows e) (all-keep others
 
 -- no row below the least, and none from 0xf40 up, is burnt
 pub outside : {rows : List ℕ} {state : State} {least : ℕ} (es : List Entry) (k : ℕ) → Admitted rows state least es
-    → (least ≤ k → 0xf40 ≤ k) → entry (allWritten rows es) k ≡ entry rows k
+    → (least ≤ k → 0xf40 ≤ k) → rowAt (allWritten rows es) k ≡ rowAt rows k
 unfolding allWritten
 outside [] k Admitted.none out = refl
 outside {rows} (e ∷ others) k (Admitted.more low high small done rest) out =
@@ -84,7 +90,7 @@ unfolding allPulses allWritten
 all-pulses {rows} [] whole Admitted.none = sym (new-none rows)
 all-pulses {rows} (e ∷ others) whole (Admitted.more low high small done rest) =
     let new : ℕ = writtenOver rows e .row in
-    ap₂ _+_ (entry-pulses (entry rows (e .row)) e ∙ sym (new-set rows (e .row) new (omega arith)))
+    ap₂ _+_ (entry-pulses (rowAt rows (e .row)) e ∙ sym (new-set rows (e .row) new (omega arith)))
     (all-pulses others (length-set rows (e .row) new ∙ whole) (admitted-next (e .row) new rest))
     ∙ new-through (with-keeps rows e) (all-keep others (withEntry rows e))
 
@@ -98,15 +104,15 @@ again {rows} {left} {state} (e ∷ others) whole (Admitted.more low high small d
     let new : ℕ = writtenOver rows e .row in
     let judged = judged-done rows state e done in
     let next : Admitted (withEntry rows e) state (at + 1) others = admitted-next at new rest in
-    let final : entry (allWritten (withEntry rows e) others) at ≡ new =
+    let final : rowAt (allWritten (withEntry rows e) others) at ≡ new =
     outside others at next (λ l. absurd (omega arith)) ∙ getD-set-same rows at new 0 (omega arith) in
     let inside = rw final at (each-at at under) in
-    let same = entry-again (entry rows at) (entry left at) e (judged .2) (each-at at over) inside in
+    let same = entry-again (rowAt rows at) (rowAt left at) e (judged .2) (each-at at over) inside in
     let others-again =
     again others (length-set rows at new ∙ whole) next
     (each-set at new new over (inItself new)) (each-under at new under (rw final (inItself new))) in
-    let bound : entry left at ≤ new = in-le (entry left at) new inside in
-    let new-low : new < 2 ^ 24 = entry-small (entry rows at) e (omega arith) small in (
+    let bound : rowAt left at ≤ new = in-le (rowAt left at) new inside in
+    let new-low : new < 2 ^ 24 = entry-small (rowAt rows at) e (omega arith) small in (
       Admitted.more low high small (done-judged left state e (judged .0) (omega arith) (same .0))
           (admitted-agrees (others-again .0) (λ k l. sym (getD-set-other left at k new 0 (λ here. omega arith)))),
       ap (λ (row : ℕ). allWritten (set left at row) others) (same .1) ∙ others-again .1,

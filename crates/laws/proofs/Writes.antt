@@ -13,7 +13,7 @@ use Rattle.row.specs.Answers.{found}
 use Rattle.row.specs.Code.{setBits, code, flipped, plain, inverted}
 use Rattle.row.specs.Reading.{decoded, readRow}
 use Rattle.row.specs.Voting.{bitAt}
-use Rattle.row.specs.Writing.{fits, pulses, burnt, kept, eccWritten}
+use Rattle.row.specs.Writing.{fits, pulses, burntOver, leftAlone, eccWritten}
 use Rattle.row.specs.declared.answer.Condition.the-variants.{Clean}
 use Rattle.row.specs.declared.writing.Written.{Written}
 use Rattle.row.proofs.Codes.{code-lt}
@@ -40,9 +40,9 @@ inThrough a b c ab bc = in-shared a c (cc (shared a b ab, shared b c bc, and-ass
 -- ---- what an ECC write leaves
 
 pub data Ecc (old value : ℕ) : Written → Type 0 where
-  as-plain : In old (plain value) → Ecc old value (burnt old (plain value))
-  as-inverted : (In old (plain value) → ⊥) → In old (inverted value) → Ecc old value (burnt old (inverted value))
-  as-it-was : (In old (plain value) → ⊥) → (In old (inverted value) → ⊥) → Ecc old value (kept old 9)
+  as-plain : In old (plain value) → Ecc old value (burntOver old (plain value))
+  as-inverted : (In old (plain value) → ⊥) → In old (inverted value) → Ecc old value (burntOver old (inverted value))
+  as-it-was : (In old (plain value) → ⊥) → (In old (inverted value) → ⊥) → Ecc old value (leftAlone old 9)
 
 lacks : (old row : ℕ) → fits old row ≡ false → In old row → ⊥
 lacks old row e holds = eqb-false (bitAnd old row) old e (shared old row holds)

@@ -3,11 +3,14 @@
 use Prim.Native.Nat.{ℕ}
 use mathlib.Core.List.{List, [], _∷_}
 use Rattle.row.specs.declared.answer.Answer.{Answer}
-use Rattle.chip.specs.Calls.{reset, advance, showLock, enterKey}
+use Rattle.chip.specs.Calls.{advance, showLock, enterKey}
+use Rattle.chip.specs.Resetting.{reset}
 use Rattle.chip.specs.declared.state.State.{State}
 use Rattle.chip.specs.declared.state.Outcome.{Outcome}
-use Rattle.access.specs.Reads.{readRaw, readEcc, readVote}
-use Rattle.access.specs.Writes.{Left, writeRaw, writeEcc}
+use Rattle.access.specs.Reads.{readRaw, readEcc}
+use Rattle.access.specs.Votes.{readVote}
+use Rattle.access.specs.Burning.{Left}
+use Rattle.access.specs.Writes.{writeRaw, writeEcc}
 use Rattle.job.specs.Jobs.{runJob, rehearse}
 
 -- a chip: its row slice, of any length, and its latched state
@@ -41,8 +44,8 @@ abbrev pub stated : Chip → Outcome → Result
 stated chip o = record { answer = o .answer; chip = record { rows = chip .rows; state = o .state } }
 
 -- a call that can change the state and the rows
-abbrev pub burnt : Left → Result
-burnt l = record { answer = l .outcome .answer; chip = record { rows = l .rows; state = l .outcome .state } }
+abbrev pub leaving : Left → Result
+leaving l = record { answer = l .outcome .answer; chip = record { rows = l .rows; state = l .outcome .state } }
 
 -- a call performed
 unfoldable pub perform : Chip → Call → Result
@@ -50,13 +53,13 @@ perform chip aReset = stated chip (reset (chip .rows) (chip .state))
 perform chip (aRawRead caller row) = only chip (readRaw (chip .rows) (chip .state) caller row)
 perform chip (anEccRead caller row) = only chip (readEcc (chip .rows) (chip .state) caller row)
 perform chip (aVote caller row count) = only chip (readVote (chip .rows) (chip .state) caller row count)
-perform chip (aRawWrite caller row value) = burnt (writeRaw (chip .rows) (chip .state) caller row value)
-perform chip (anEccWrite caller row value) = burnt (writeEcc (chip .rows) (chip .state) caller row value)
+perform chip (aRawWrite caller row value) = leaving (writeRaw (chip .rows) (chip .state) caller row value)
+perform chip (anEccWrite caller row value) = leaving (writeEcc (chip .rows) (chip .state) caller row value)
 perform chip (anAdvance caller domain page level) = stated chip (advance (chip .state) caller domain page level)
 perform chip (aShow caller domain page) = only chip (showLock (chip .state) caller domain page)
 perform chip (aKey caller key) = stated chip (enterKey (chip .state) caller key)
-perform chip (aJob job) = burnt (runJob (chip .rows) (chip .state) job)
-perform chip (aRehearsal job limit) = burnt (rehearse (chip .rows) (chip .state) job limit)
+perform chip (aJob job) = leaving (runJob (chip .rows) (chip .state) job)
+perform chip (aRehearsal job limit) = leaving (rehearse (chip .rows) (chip .state) job limit)
 
 -- calls performed one after the other
 unfoldable pub performAll : Chip → List Call → Chip

@@ -4,8 +4,9 @@ use mathlib.Core.List.{List, [], _∷_}
 use mathlib.Core.Path.{_≡_}
 use lib.ListN.{getD, set}
 use Rattle.row.specs.Writing.{pulses}
-use Rattle.chip.specs.Calls.{resetNumber, reset, enterKey}
-use Rattle.chip.specs.Lists.{entry}
+use Rattle.chip.specs.Calls.{enterKey}
+use Rattle.chip.specs.Resetting.{resetNumber, reset}
+use Rattle.chip.specs.Slices.{rowAt}
 use Rattle.chip.specs.declared.state.State.{State}
 use Rattle.job.specs.Burning.{writtenOver, withEntry, allWritten}
 use Rattle.job.specs.Entries.{entriesOf}
@@ -34,7 +35,7 @@ acceptedOn rows before key job = (resetNumber rows ≡ 0) × (runJob rows (ready
 -- what a cut may leave: the entries before some entry finished, that entry's row anywhere between its old bits and its finished bits,
 -- and later rows as they were
 pub data CutOf : List ℕ → List Entry → List ℕ → Type 0 where
-  within : {rows : List ℕ} {e : Entry} {others : List Entry} (row : ℕ) → In (entry rows (e .row)) row → In row (writtenOver rows e .row)
+  within : {rows : List ℕ} {e : Entry} {others : List Entry} (row : ℕ) → In (rowAt rows (e .row)) row → In row (writtenOver rows e .row)
       → CutOf rows (e ∷ others) (set rows (e .row) row)
   past : {rows left : List ℕ} {e : Entry} {others : List Entry} → CutOf (withEntry rows e) others left → CutOf rows (e ∷ others) left
   atEnd : {rows : List ℕ} → CutOf rows [] rows

@@ -4,15 +4,20 @@ use mathlib.Core.List.{List, [], _∷_}
 use mathlib.Core.Logic.{_↔_}
 use mathlib.Core.Path.{_≡_}
 use lib.Bits.{bitOr}
+use lib.Dec.{ltb}
 use lib.ListN.{set}
 use Rattle.row.specs.Answers.{found}
 use Rattle.row.specs.Code.{setBits, plain, inverted}
+use Rattle.row.specs.Rungs.{firstOf}
 use Rattle.row.specs.declared.answer.Condition.the-variants.{Clean}
-use Rattle.chip.specs.Calls.{resetNumber, reset, shownLevel}
-use Rattle.chip.specs.Lists.{entry}
+use Rattle.chip.specs.Calls.{shownLevel}
+use Rattle.chip.specs.Permission.{mayWrite}
+use Rattle.chip.specs.Resetting.{resetNumber, reset}
+use Rattle.chip.specs.Slices.{rowAt}
 use Rattle.chip.specs.declared.state.State.{State}
 use Rattle.access.specs.Reads.{readEccNumber, readEcc}
-use Rattle.access.specs.Writes.{writeRaw, writeEccAllowed, writeEcc}
+use Rattle.access.specs.Judging.{ecc, callRungs}
+use Rattle.access.specs.Writes.{writeRaw, writeEcc}
 use Rattle.laws.specs.Calls.{Chip, Call, Result, aReset, aRawWrite, anEccWrite, aJob, aRehearsal, perform, performAll}
 use Rattle.laws.specs.Writes.{In}
 
@@ -29,7 +34,7 @@ NoRoom = (chip : Chip) (call : Call) (a b : Result) → a ≡ perform chip call 
 
 -- no burnt bit clears, over any calls
 abbrev pub NoBitClears : Type 0
-NoBitClears = (chip : Chip) (calls : List Call) (row : ℕ) → In (entry (chip .rows) row) (entry (performAll chip calls .rows) row)
+NoBitClears = (chip : Chip) (calls : List Call) (row : ℕ) → In (rowAt (chip .rows) row) (rowAt (performAll chip calls .rows) row)
 
 -- calls with no reset among them
 pub data NoReset : List Call → Type 0 where
@@ -54,20 +59,24 @@ WriteReadsBack =
 abbrev pub RawAdds : Type 0
 RawAdds =
     (rows : List ℕ) (state : State) (caller row value : ℕ) → writeRaw rows state caller row value .outcome .answer .number ≡ 0
-    → writeRaw rows state caller row value .rows ≡ set rows row (bitOr (entry rows row) value)
+    → writeRaw rows state caller row value .rows ≡ set rows row (bitOr (rowAt rows row) value)
+
+-- the number of an ECC write before its row is used
+abbrev pub eccAllowed : List ℕ → State → ℕ → ℕ → ℕ → ℕ
+eccAllowed rows state caller row value = firstOf (callRungs rows state caller row ecc (ltb 65535 value) (mayWrite state caller row))
 
 -- an ECC write that gets so far is refused exactly if neither polarity holds every bit already burnt
 abbrev pub NineOfCall : Type 0
 NineOfCall =
     (rows : List ℕ) (state : State) (caller row value : ℕ)
     → (writeEcc rows state caller row value .outcome .answer .number ≡ 9)
-    ↔ ((writeEccAllowed rows state caller row value ≡ 0)
-    × (In (entry rows row) (plain value) → ⊥) × (In (entry rows row) (inverted value) → ⊥))
+    ↔ ((eccAllowed rows state caller row value ≡ 0)
+    × (In (rowAt rows row) (plain value) → ⊥) × (In (rowAt rows row) (inverted value) → ⊥))
 
 -- with at most one bit set beforehand it is never refused so
 abbrev pub OneBitNeverNine : Type 0
 OneBitNeverNine =
-    (rows : List ℕ) (state : State) (caller row value : ℕ) → setBits (entry rows row) ≤ 1
+    (rows : List ℕ) (state : State) (caller row value : ℕ) → setBits (rowAt rows row) ≤ 1
     → writeEcc rows state caller row value .outcome .answer .number ≡ 9 → ⊥
 
 -- soft locks fall back to the burnt ones at reset: what it latches goes by the rows alone

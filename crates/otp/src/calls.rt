@@ -2,7 +2,9 @@
 // Each contract cites the definition of that call, so all that is proved of the call holds here too.
 ghost use mathlib.Core.Path.{_≡_};
 ghost use Rattle.chip.specs.Calls as chip;
+ghost use Rattle.chip.specs.Resetting as resetting;
 ghost use Rattle.access.specs.Reads as reads;
+ghost use Rattle.access.specs.Votes as votes;
 ghost use Rattle.access.specs.Writes as writes;
 ghost use Rattle.job.specs.Jobs as jobs;
 ghost use Rattle.otp.specs.Flat.{flatAnswer, flatOutcome};
@@ -26,7 +28,7 @@ use job::jobs::run_job;
 // Latches what the rows hold.
 #[no_mangle]
 pub extern "C" fn otp_reset(rows: &[u32], state: State) -> FlatOutcome
-    ensures { λ r. ⌜ r ≡ flatOutcome (chip.reset (now (rows .entry)) state) ⌝ }
+    ensures { λ r. ⌜ r ≡ flatOutcome (resetting.reset (now (rows .entry)) state) ⌝ }
 {
     flat_outcome(reset(rows, state))
 }
@@ -56,7 +58,7 @@ pub extern "C" fn otp_read_vote(
     row: u32,
     count: u32,
 ) -> FlatAnswer
-    ensures { λ r. ⌜ r ≡ flatAnswer (reads.readVote (now (rows .entry)) state caller row count) ⌝ }
+    ensures { λ r. ⌜ r ≡ flatAnswer (votes.readVote (now (rows .entry)) state caller row count) ⌝ }
 {
     flat_answer(read_vote(rows, state, caller, row, count))
 }

@@ -1,13 +1,35 @@
--- What every call answers (document 01, "The numbers we answer with").
+-- What every call answers (document 01, "The numbers we answer with"). No answer is made anywhere else.
 use Prim.Native.Nat.{ℕ}
+use lib.Dec.{eqb}
+use Rattle.row.specs.Choice.{if_then_else_}
 use Rattle.row.specs.declared.answer.Answer.{Answer}
 use Rattle.row.specs.declared.answer.Condition.{Condition}
 use Rattle.row.specs.declared.answer.Condition.the-variants.{Clean}
 
--- every refusal returns its number, value 0, condition clean, place 0 and 0 pulses
-abbrev pub refused : ℕ → Answer
-refused number = record { number = number; value = 0; condition = Clean; place = 0; pulses = 0 }
+-- every refusal returns its number, value 0, condition clean and 0 pulses; the place is that of a job's refused entry
+abbrev pub refusedAt : ℕ → ℕ → Answer
+refusedAt number place = record { number = number; value = 0; condition = Clean; place = place; pulses = 0 }
 
--- a read that is done returns its value and the condition of the row
+-- the place is 0 outside jobs and rehearsals
+abbrev pub refused : ℕ → Answer
+refused number = refusedAt number 0
+
+-- an ECC read that is done returns its value and the condition of the row
 abbrev pub found : ℕ → Condition → Answer
 found value condition = record { number = 0; value = value; condition = condition; place = 0; pulses = 0 }
+
+-- any other read or vote returns its value and a show its level; the condition is clean outside ECC reads
+abbrev pub told : ℕ → Answer
+told value = found value Clean
+
+-- all other calls return value 0
+abbrev pub done : Answer
+done = told 0
+
+-- done writes, jobs and rehearsals return their pulses, and a job or rehearsal its place
+abbrev pub spent : ℕ → ℕ → Answer
+spent place pulses = record { number = 0; value = 0; condition = Clean; place = place; pulses = pulses }
+
+-- number 0 is done; any other is a refusal
+abbrev pub answered : ℕ → Answer → Answer
+answered number finished = if eqb number 0 then finished else refused number

@@ -1,6 +1,8 @@
 pub mod Choice
 pub mod Answers
+pub mod Rungs
 pub mod Code
 pub mod Reading
 pub mod Writing
 pub mod Voting
+pub mod Upward

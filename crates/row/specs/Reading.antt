@@ -39,3 +39,7 @@ decoded bits = if isCode bits then found (dataOf bits) Clean else repairedBelow 
 -- a row read with ECC
 abbrev pub readRow : ℕ → Answer
 readRow row = decoded (upright row % 2 ^ 22)
+
+-- no value has a code within one bit
+abbrev pub undecodable : ℕ → Bool
+undecodable row = eqb (readRow row .number) 8

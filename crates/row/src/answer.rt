@@ -17,20 +17,27 @@ pub struct Answer {
     pub pulses: u32,
 }
 
-// A refusal: its number, value 0, clean, place 0 and 0 pulses.
-pub fn refused(number: u32) -> Answer
-    ensures { λ r. ⌜ r ≡ spec.refused number ⌝ }
+// A refusal: its number, value 0, clean, 0 pulses, and of a job the place of the refused entry.
+pub fn refused_at(number: u32, place: u32) -> Answer
+    ensures { λ r. ⌜ r ≡ spec.refusedAt number place ⌝ }
 {
     Answer {
         number,
         value: 0,
         condition: Condition::Clean,
-        place: 0,
+        place,
         pulses: 0,
     }
 }
 
-// A read that is done: its value, and the condition of the row.
+// A refusal outside jobs and rehearsals.
+pub fn refused(number: u32) -> Answer
+    ensures { λ r. ⌜ r ≡ spec.refused number ⌝ }
+{
+    refused_at(number, 0)
+}
+
+// An ECC read that is done: its value, and the condition of the row.
 pub fn found(value: u32, condition: Condition) -> Answer
     ensures { λ r. ⌜ r ≡ spec.found value condition ⌝ }
 {
@@ -40,5 +47,32 @@ pub fn found(value: u32, condition: Condition) -> Answer
         condition,
         place: 0,
         pulses: 0,
+    }
+}
+
+// Any other read that is done, and a show: a value.
+pub fn told(value: u32) -> Answer
+    ensures { λ r. ⌜ r ≡ spec.told value ⌝ }
+{
+    found(value, Condition::Clean)
+}
+
+// A call that is done and has nothing to tell.
+pub fn done() -> Answer
+    ensures { λ r. ⌜ r ≡ spec.done ⌝ }
+{
+    told(0)
+}
+
+// A done write, job or rehearsal: its place and its pulses.
+pub fn spent(place: u32, pulses: u32) -> Answer
+    ensures { λ r. ⌜ r ≡ spec.spent place pulses ⌝ }
+{
+    Answer {
+        number: 0,
+        value: 0,
+        condition: Condition::Clean,
+        place,
+        pulses,
     }
 }

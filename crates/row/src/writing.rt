@@ -27,8 +27,8 @@ pub fn pulses(old: u32, row: u32) -> u32
 }
 
 // A row burnt over an old one.
-fn burnt(old: u32, row: u32) -> Written
-    ensures { λ r. ⌜ r ≡ spec.burnt old row ⌝ }
+fn burnt_over(old: u32, row: u32) -> Written
+    ensures { λ r. ⌜ r ≡ spec.burntOver old row ⌝ }
 {
     Written {
         number: 0,
@@ -43,11 +43,11 @@ pub fn write_ecc(old: u32, value: u16) -> Written
 {
     let upright = plain(value);
     if fits(old, upright) {
-        return burnt(old, upright);
+        return burnt_over(old, upright);
     }
     let turned = inverted(value);
     if fits(old, turned) {
-        return burnt(old, turned);
+        return burnt_over(old, turned);
     }
     Written {
         number: 9,
@@ -60,5 +60,5 @@ pub fn write_ecc(old: u32, value: u16) -> Written
 pub fn write_raw(old: u32, value: u32) -> Written
     ensures { λ r. ⌜ r ≡ spec.rawWritten old value ⌝ }
 {
-    burnt(old, old | value)
+    burnt_over(old, old | value)
 }

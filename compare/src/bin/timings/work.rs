@@ -30,63 +30,35 @@ pub struct Work {
 }
 
 extern "C" {
-    pub fn work_reset(work: &mut Work);
-    pub fn work_read_raw(work: &mut Work);
-    pub fn work_read_ecc(work: &mut Work);
-    pub fn work_read_vote(work: &mut Work);
-    pub fn work_write_raw(work: &mut Work);
-    pub fn work_write_ecc(work: &mut Work);
-    pub fn work_advance(work: &mut Work);
-    pub fn work_show(work: &mut Work);
-    pub fn work_enter_key(work: &mut Work);
-    pub fn work_run_job(work: &mut Work);
-    pub fn work_rehearse(work: &mut Work);
     pub fn work_read_shape(work: &mut Work);
     pub fn work_write_shape(work: &mut Work);
 }
 
-pub fn reset(w: &mut Work) {
-    w.answer = chip::reset(&w.rows, &mut w.state)
+/// Makes the two sides of each call: the library's is a function of compare/work.c.
+macro_rules! sides {
+    ($($library:ident, $plain:ident($work:ident) => $answer:expr;)*) => {
+        extern "C" {
+            $(pub fn $library(work: &mut Work);)*
+        }
+
+        $(pub fn $plain($work: &mut Work) {
+            $work.answer = $answer
+        })*
+    };
 }
 
-pub fn read_raw(w: &mut Work) {
-    w.answer = access::read_raw(&w.rows, &w.state, w.caller, w.row)
-}
-
-pub fn read_ecc(w: &mut Work) {
-    w.answer = access::read_ecc(&w.rows, &w.state, w.caller, w.row)
-}
-
-pub fn read_vote(w: &mut Work) {
-    w.answer = access::read_vote(&w.rows, &w.state, w.caller, w.row, w.count)
-}
-
-pub fn write_raw(w: &mut Work) {
-    w.answer = access::write_raw(&mut w.rows, &w.state, w.caller, w.row, w.value)
-}
-
-pub fn write_ecc(w: &mut Work) {
-    w.answer = access::write_ecc(&mut w.rows, &w.state, w.caller, w.row, w.value)
-}
-
-pub fn advance(w: &mut Work) {
-    w.answer = chip::advance(&mut w.state, w.caller, w.domain, w.page, w.level)
-}
-
-pub fn show(w: &mut Work) {
-    w.answer = chip::show(&w.state, w.caller, w.domain, w.page)
-}
-
-pub fn enter_key(w: &mut Work) {
-    w.answer = chip::enter_key(&mut w.state, w.caller, &w.key)
-}
-
-pub fn run_job(w: &mut Work) {
-    w.answer = jobs::run_job(&mut w.rows, &w.state, &w.job)
-}
-
-pub fn rehearse(w: &mut Work) {
-    w.answer = jobs::rehearse(&mut w.rows, &w.state, &w.job, w.limit)
+sides! {
+    work_reset, reset(w) => chip::reset(&w.rows, &mut w.state);
+    work_read_raw, read_raw(w) => access::read_raw(&w.rows, &w.state, w.caller, w.row);
+    work_read_ecc, read_ecc(w) => access::read_ecc(&w.rows, &w.state, w.caller, w.row);
+    work_read_vote, read_vote(w) => access::read_vote(&w.rows, &w.state, w.caller, w.row, w.count);
+    work_write_raw, write_raw(w) => access::write_raw(&mut w.rows, &w.state, w.caller, w.row, w.value);
+    work_write_ecc, write_ecc(w) => access::write_ecc(&mut w.rows, &w.state, w.caller, w.row, w.value);
+    work_advance, advance(w) => chip::advance(&mut w.state, w.caller, w.domain, w.page, w.level);
+    work_show, show(w) => chip::show(&w.state, w.caller, w.domain, w.page);
+    work_enter_key, enter_key(w) => chip::enter_key(&mut w.state, w.caller, &w.key);
+    work_run_job, run_job(w) => jobs::run_job(&mut w.rows, &w.state, &w.job);
+    work_rehearse, rehearse(w) => jobs::rehearse(&mut w.rows, &w.state, &w.job, w.limit);
 }
 
 /// Every seventh row, ECC, with values that spread over the 16 bits.

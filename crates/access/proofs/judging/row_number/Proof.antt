@@ -1,48 +1,47 @@
 -- `access::judging::row_number` meets its contract: each answer by the tests that led to it.
 -- Assumes nothing.
 use borrow.Author.Needs.{needs}
-use mathlib.Core.Path.{_≡_}
-use mathlib.Core.Bool.{false, _&&_}
-use mathlib.Core.Logic.{⊎-elim}
-use borrow.Author.Tests.{lt-ltb, le-ltb, le-leb, lt-leb, eq-eqb, ne-eqb}
-use lib.Dec.{leb}
-use Rattle.access.specs.Judging.{rowNumber}
+use borrow.Author.Tests.{lt-ltb, le-ltb, not-true, not-false}
+use Rattle.access.specs.Judging.{rowRungs}
 use Rattle.access.proofs.judging.row_number.Statement.{statement}
 use Rattle.access.proofs.judging.row_number.Tie as tie
 
+hidden-requires : tie.Need-hidden-requires
+hidden-requires c κs = search needs
+
 returns : tie.Need-returns
-unfolding rowNumber
-returns c = rw (ne-eqb _ _ (c .if1 .taken))
+unfolding rowRungs
+returns c = rw (← c .before .hidden .ensures, c .if1 .taken)
 
 returns-2 : tie.Need-returns-2
-unfolding rowNumber
-returns-2 c = simp (eq-eqb _ _ (c .before .if1 .left), lt-ltb _ _ (c .if2 .taken))
+unfolding rowRungs
+returns-2 c = rw (← c .before .before .hidden .ensures, c .before .if1 .left, not-true (c .before .before .before .before .args .may) (c .if2 .taken))
+
+row-at-requires : tie.Need-row-at-requires
+row-at-requires c κs = search needs
 
 returns-3 : tie.Need-returns-3
-unfolding rowNumber
-returns-3 c = simp (eq-eqb _ _ (c .before .before .if1 .left), le-ltb _ _ (c .before .if2 .left), c .if3 .taken)
+unfolding rowRungs
+returns-3 c =
+    rw (
+      ← c .before .before .before .before .hidden .ensures,
+      c .before .before .before .if1 .left,
+      not-false (c .before .before .before .before .before .before .args .may) (c .before .before .if2 .left),
+      ← c .before .row-at .ensures,
+      lt-ltb _ _ (c .if3 .taken),
+    )
 
 returns-4 : tie.Need-returns-4
-unfolding rowNumber
-returns-4 c = simp (eq-eqb _ _ (c .before .before .before .if1 .left), le-ltb _ _ (c .before .before .if2 .left), c .before .if3 .left, lt-ltb _ _ (c .if4 .taken))
-
-returns-5 : tie.Need-returns-5
-unfolding rowNumber
-returns-5 c = simp (eq-eqb _ _ (c .before .before .before .before .before .if1 .left), le-ltb _ _ (c .before .before .before .before .if2 .left), c .before .before .before .if3 .left, le-ltb _ _ (c .before .before .if4 .left), c .before .if5 .taken, le-leb _ _ (c .if6 .taken))
-
-judged-requires : tie.Need-judged-requires
-judged-requires c κs = search needs
-
--- where the code goes on, the call is raw or the row no lock row
-no-lock : (c : tie.Joined5) → (c .before .before .before .before .before .before .args .coded && leb 0xf80 (c .before .before .before .before .before .before .args .row)) ≡ false
-no-lock c = ⊎-elim (λ w. rw (w .0 .taken, lt-leb _ _ (w .1 .left))) (λ w. rw (w .left)) (c .if5 .came)
-
-returns-6 : tie.Need-returns-6
-unfolding rowNumber
-returns-6 c =
-    rw (eq-eqb _ _ (c .before .before .before .before .before .if1 .left), le-ltb _ _ (c .before .before .before .before .if2 .left), c .before .before .before .if3 .left, le-ltb _ _ (c .before .before .if4 .left), no-lock (c .before))
-    (c .judged .ensures)
+unfolding rowRungs
+returns-4 c =
+    rw (
+      ← c .before .before .before .before .hidden .ensures,
+      c .before .before .before .if1 .left,
+      not-false (c .before .before .before .before .before .before .args .may) (c .before .before .if2 .left),
+      ← c .before .row-at .ensures,
+      le-ltb _ _ (c .if3 .left),
+    )
 
 pub row-number-spec : {M : Type 1} → statement M
 row-number-spec =
-    tie.close (tie.spec returns returns-2 returns-3 returns-4 returns-5 judged-requires returns-6)
+    tie.close (tie.spec hidden-requires returns returns-2 row-at-requires returns-3 returns-4)

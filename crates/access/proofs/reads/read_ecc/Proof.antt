@@ -1,11 +1,13 @@
--- `access::reads::read_ecc` meets its contract: a refusal stays one, and an entry that may be read is read by ECC.
+-- `access::reads::read_ecc` meets its contract: a refusal stays one, and a row that may be read is read by ECC.
 -- Assumes nothing.
 use borrow.Author.Needs.{needs}
 use denote.Ref.{now}
 use mathlib.Core.Path.{_∙_}
-use Rattle.row.specs.Reading.{readRow}
-use Rattle.chip.specs.Lists.{entry}
-use Rattle.access.specs.Reads.{readEccNumber, readEcc}
+use Rattle.row.proofs.Ladders.{refusing}
+use Rattle.chip.specs.Permission.{mayRead}
+use Rattle.chip.specs.Slices.{rowAt}
+use Rattle.access.specs.Judging.{ecc, noValue, rowRungs, callRungs}
+use Rattle.access.specs.Reads.{readEcc}
 use Rattle.access.proofs.Answering.{refusal-stays, read-on}
 use Rattle.access.proofs.reads.read_ecc.Statement.{statement}
 use Rattle.access.proofs.reads.read_ecc.Tie as tie
@@ -14,21 +16,21 @@ readable-requires : tie.Need-readable-requires
 readable-requires c κs = search needs
 
 returns : tie.Need-returns
-unfolding readEcc
+unfolding readEcc callRungs rowRungs refusing
 returns c =
     let s = c .before .before .before .before .args in
     let rows = now (s .rows) in
-    refusal-stays (readEccNumber rows (s .state) (s .caller) (s .row)) (entry rows (s .row)) _ (c .before .before .readable .ensures) (readRow (entry rows (s .row))) (c .if1 .taken)
+    refusal-stays (callRungs rows (s .state) (s .caller) (s .row) ecc noValue (mayRead (s .state) (s .caller) (s .row))) tt (rowAt rows (s .row)) _ (c .before .before .readable .ensures) (c .if1 .taken)
 
 read-row-requires : tie.Need-read-row-requires
 read-row-requires c κs = search needs
 
 returns-2 : tie.Need-returns-2
-unfolding readEcc
+unfolding readEcc callRungs rowRungs refusing
 returns-2 c =
     let s = c .before .before .before .before .before .args in
     let rows = now (s .rows) in
-    c .read-row .ensures ∙ read-on (readEccNumber rows (s .state) (s .caller) (s .row)) (entry rows (s .row)) _ (c .before .before .before .readable .ensures) (c .before .if1 .left)
+    c .read-row .ensures ∙ read-on (callRungs rows (s .state) (s .caller) (s .row) ecc noValue (mayRead (s .state) (s .caller) (s .row))) tt (rowAt rows (s .row)) _ (c .before .before .before .readable .ensures) (c .before .if1 .left)
 
 pub read-ecc-spec : {M : Type 1} → statement M
 read-ecc-spec = tie.close (tie.spec readable-requires returns read-row-requires returns-2)

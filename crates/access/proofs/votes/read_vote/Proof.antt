@@ -6,10 +6,9 @@ use denote.Ref.{now}
 use borrow.Author.Tests.{eq-eqb, ne-eqb}
 use Prim.Native.Nat.{ℕ}
 use mathlib.Core.List.{List}
-use Rattle.row.specs.Answers.{found}
+use Rattle.row.specs.Answers.{told}
 use Rattle.row.specs.Voting.{vote, threshold}
-use Rattle.row.specs.declared.answer.Condition.the-variants.{Clean}
-use Rattle.access.specs.Reads.{readVote}
+use Rattle.access.specs.Votes.{readVote}
 use Rattle.access.proofs.Passing.{vote-passed}
 use Rattle.access.proofs.Upward.{count-low}
 use Rattle.access.proofs.votes.read_vote.Statement.{statement}
@@ -37,16 +36,16 @@ threshold-requires c κs = search needs
 vote-requires : tie.Need-vote-requires
 vote-requires c κs = search needs
 
-found-requires : tie.Need-found-requires
-found-requires c κs = search needs
+told-requires : tie.Need-told-requires
+told-requires c κs = search needs
 
 returns-2 : tie.Need-returns-2
 unfolding readVote
 returns-2 c =
     let s = c .before .before .before .before .before .before .before .args in
     rw (← c .before .before .before .before .before .read-vote-number .ensures, eq-eqb _ _ (c .before .before .before .before .if1 .left))
-    (c .found .ensures
-    ∙ ap (λ (voted : ℕ). found voted Clean)
+    (c .told .ensures
+    ∙ ap told
     (c .before .vote .ensures
     ∙ ap₂ (λ (t : ℕ) (rows : List ℕ). vote t rows) (c .before .before .threshold .ensures) (c .before .before .before .gathered .ensures)))
 
@@ -60,5 +59,5 @@ read-vote-spec =
     gathered-requires
     threshold-requires
     vote-requires
-    found-requires
+    told-requires
     returns-2)

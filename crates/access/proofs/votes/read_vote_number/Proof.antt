@@ -1,5 +1,6 @@
 -- `access::votes::read_vote_number` meets its contract: each answer by the tests that led to it.
 -- Assumes nothing.
+use borrow.Author.Needs.{needs}
 use mathlib.Core.Path.{_≡_}
 use mathlib.Core.Bool.{true, _||_}
 use mathlib.Core.Logic.{⊎-elim}
@@ -23,6 +24,9 @@ returns-3 c = simp (eq-eqb _ _ (c .before .before .before .if1 .left), le-ltb _ 
 -- where the code goes on, the count is three or eight
 counted : (c : tie.Joined3) → (eqb (c .before .before .before .before .args .count) 3 || eqb (c .before .before .before .before .args .count) 8) ≡ true
 counted c = ⊎-elim (λ w. rw (ne-eqb _ _ (w .0 .taken), eq-eqb _ _ (w .1 .left))) (λ w. rw (eq-eqb _ _ (w .left))) (c .if3 .came)
+
+cast-if5 : tie.Need-cast-if5
+cast-if5 c = search needs
 
 sub-if5 : tie.Need-sub-if5
 sub-if5 c =
@@ -49,8 +53,8 @@ returns-5 c =
     let locked : 0xf80 < s .row + s .count = omega arith in
     rw (eq-eqb _ _ (c .before .before .before .before .if1 .left), le-ltb _ _ (c .before .before .before .if2 .left), counted (c .before .before), le-ltb _ _ within, lt-ltb _ _ locked)
 
-judged-upward-requires : tie.Need-judged-upward-requires
-judged-upward-requires c κs =
+group-number-requires : tie.Need-group-number-requires
+group-number-requires c κs =
     let s = c .before .before .before .before .before .before .args in
     let low : s .count ≤ 8 = count-low _ (counted (c .before .before)) in
     omega arith
@@ -62,7 +66,7 @@ returns-6 c =
     let within : s .row + s .count ≤ 4096 = omega arith in
     let data-rows : s .row + s .count ≤ 0xf80 = omega arith in
     rw (eq-eqb _ _ (c .before .before .before .before .before .if1 .left), le-ltb _ _ (c .before .before .before .before .if2 .left), counted (c .before .before .before), le-ltb _ _ within, le-ltb _ _ data-rows)
-    (c .judged-upward .ensures)
+    (c .group-number .ensures)
 
 pub read-vote-number-spec : {M : Type 1} → statement M
 read-vote-number-spec =
@@ -71,9 +75,10 @@ read-vote-number-spec =
     returns
     returns-2
     returns-3
+    cast-if5
     sub-if5
     returns-4
     sub-if6
     returns-5
-    judged-upward-requires
+    group-number-requires
     returns-6)

@@ -1,16 +1,35 @@
--- `access::writes::write_raw` meets its contract: the answer, beside the state that came in.
+-- `access::writes::write_raw` meets its contract: what was burnt, and the state that came in beside the answer.
 -- Assumes nothing.
 use borrow.Author.Needs.{needs}
 use denote.Ref.{now}
+use mathlib.Core.Path.{_≡_, ap, _∙_}
+use mathlib.Core.Bool.{Bool}
+use Prim.Native.Nat.{ℕ}
+use lib.Dec.{ltb}
+use Rattle.row.specs.Rungs.{firstOf}
 use Rattle.row.specs.Writing.{rawWritten}
-use Rattle.chip.specs.Lists.{entry}
-use Rattle.access.specs.Writes.{writeRaw, writeRawNumber}
-use Rattle.access.proofs.Staying.{stays}
+use Rattle.row.proofs.Ladders.{or-nothing}
+use Rattle.chip.specs.Slices.{rowAt}
+use Rattle.access.specs.Judging.{raw, callRungs}
+use Rattle.access.specs.Writes.{writeRawNumber, writeRaw}
+use Rattle.access.proofs.Staying.{leaves}
 use Rattle.access.proofs.writes.write_raw.Statement.{statement}
 use Rattle.access.proofs.writes.write_raw.Tie as tie
 
-raw-answer-requires : tie.Need-raw-answer-requires
-raw-answer-requires c κs = search needs
+may-write-requires : tie.Need-may-write-requires
+may-write-requires c κs = search needs
+
+call-number-requires : tie.Need-call-number-requires
+call-number-requires c κs = search needs
+
+row-at-requires : tie.Need-row-at-requires
+row-at-requires c κs = search needs
+
+write-raw-requires : tie.Need-write-raw-requires
+write-raw-requires c κs = search needs
+
+burn-requires : tie.Need-burn-requires
+burn-requires c κs = search needs
 
 same-length : tie.Need-same-length
 same-length c = search needs
@@ -18,11 +37,22 @@ same-length c = search needs
 returns : tie.Need-returns
 unfolding writeRaw
 returns c =
-    let s = c .before .before .before .before .before .args in
-    let rows = now (s .rows) in (
-      stays (writeRawNumber rows (s .state) (s .caller) (s .row) (s .value)) rows (s .state) (s .row) (rawWritten (entry rows (s .row)) (s .value)) _ (c .before .before .raw-answer .ensures .0),
-      c .before .before .raw-answer .ensures .1,
-    )
+    let s = c .before .before .before .before .before .before .before .before .before .before .before .args in
+    let rows = now (s .rows) in
+    let burnt = c .before .before .burn .ensures in
+    leaves rows _ (s .state) (s .row) (c .before .before .before .before .before .before .before .call-number .result) (writeRawNumber rows (s .state) (s .caller) (s .row) (s .value)) (c .before .before .before .before .write-raw .result) (rawWritten (rowAt rows (s .row)) (s .value)) _ (burnt .0) (burnt .1)
+    (λ none. c .before .before .before .before .write-raw .ensures ∙ ap (λ (old : ℕ). rawWritten old (s .value)) (c .before .before .before .before .before .row-at .ensures))
+    (or-nothing (c .before .before .before .before .before .before .before .call-number .result) ∙ c .before .before .before .before .before .before .before .call-number .ensures
+    ∙ ap (λ (may : Bool). firstOf (callRungs rows (s .state) (s .caller) (s .row) raw (ltb 16777215 (s .value)) may)) (c .before .before .before .before .before .before .before .before .before .may-write .ensures))
 
 pub write-raw-spec : {M : Type 1} → statement M
-write-raw-spec = tie.close (tie.spec raw-answer-requires same-length returns)
+write-raw-spec =
+    tie.close
+    (tie.spec
+    may-write-requires
+    call-number-requires
+    row-at-requires
+    write-raw-requires
+    burn-requires
+    same-length
+    returns)

@@ -13,14 +13,14 @@ abbrev μ-loop : tie.MeasureT-loop
 loop-holds : tie.Need-loop-holds Inv-loop μ-loop
 loop-holds c = search needs
 
-mul-entry-of : tie.Need-mul-entry-of Inv-loop μ-loop
-mul-entry-of c = search needs
+mul-row-at : tie.Need-mul-row-at Inv-loop μ-loop
+mul-row-at c = search needs
 
-add-entry-of : tie.Need-add-entry-of Inv-loop μ-loop
-add-entry-of c = search needs
+add-row-at : tie.Need-add-row-at Inv-loop μ-loop
+add-row-at c = search needs
 
-entry-of-requires : tie.Need-entry-of-requires Inv-loop μ-loop
-entry-of-requires c κs = search needs
+row-at-requires : tie.Need-row-at-requires Inv-loop μ-loop
+row-at-requires c κs = search needs
 
 pulses-requires : tie.Need-pulses-requires Inv-loop μ-loop
 pulses-requires c κs = search needs
@@ -47,9 +47,9 @@ burnt-spec =
     Inv-loop
     μ-loop
     loop-holds
-    mul-entry-of
-    add-entry-of
-    entry-of-requires
+    mul-row-at
+    add-row-at
+    row-at-requires
     pulses-requires
     add-sum
     add-more

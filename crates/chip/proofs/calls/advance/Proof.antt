@@ -18,8 +18,8 @@ returns : tie.Need-returns
 unfolding advance
 returns c = rw (← c .before .before .advance-number .ensures, ne-eqb _ _ (c .before .if1 .taken)) (c .refusal .ensures)
 
-found-requires : tie.Need-found-requires
-found-requires c κs = search needs
+done-requires : tie.Need-done-requires
+done-requires c κs = search needs
 
 advanced-requires : tie.Need-advanced-requires
 advanced-requires c κs =
@@ -30,7 +30,7 @@ returns-2 : tie.Need-returns-2
 unfolding advance
 returns-2 c =
     rw (← c .before .before .before .advance-number .ensures, eq-eqb _ _ (c .before .before .if1 .left))
-    (simp (c .before .found .ensures, c .advanced .ensures))
+    (simp (c .before .done .ensures, c .advanced .ensures))
 
 pub advance-spec : {M : Type 1} → statement M
 advance-spec =
@@ -39,6 +39,6 @@ advance-spec =
     advance-number-requires
     refusal-requires
     returns
-    found-requires
+    done-requires
     advanced-requires
     returns-2)

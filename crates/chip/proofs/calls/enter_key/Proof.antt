@@ -24,14 +24,14 @@ key-words-requires c κs =
     let a = c .before .before .before .args in
     enter-passed (a .caller) (now (a .key)) (sym (c .before .enter-number .ensures) ∙ c .if1 .left)
 
-found-requires : tie.Need-found-requires
-found-requires c κs = search needs
+done-requires : tie.Need-done-requires
+done-requires c κs = search needs
 
 returns-2 : tie.Need-returns-2
 unfolding enterKey
 returns-2 c =
     rw (← c .before .before .before .enter-number .ensures, eq-eqb _ _ (c .before .before .if1 .left))
-    (simp (c .found .ensures, c .before .key-words .ensures))
+    (simp (c .done .ensures, c .before .key-words .ensures))
 
 pub enter-key-spec : {M : Type 1} → statement M
 enter-key-spec =
@@ -41,5 +41,5 @@ enter-key-spec =
     refusal-requires
     returns
     key-words-requires
-    found-requires
+    done-requires
     returns-2)

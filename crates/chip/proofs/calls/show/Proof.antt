@@ -2,11 +2,10 @@
 -- Assumes nothing.
 use borrow.Author.Needs.{needs}
 use mathlib.Core.Path.{sym, ap, _∙_}
-use Prim.Native.Nat.{ℕ, _≤_}
+use Prim.Native.Nat.{_≤_}
 use native.Mathlib.Omega.{arith}
 use borrow.Author.Tests.{eq-eqb, ne-eqb}
-use Rattle.row.specs.Answers.{found}
-use Rattle.row.specs.declared.answer.Condition.the-variants.{Clean}
+use Rattle.row.specs.Answers.{told}
 use Rattle.chip.specs.Calls.{showLock}
 use Rattle.chip.proofs.Ladders.{show-passed}
 use Rattle.chip.proofs.calls.show.Statement.{statement}
@@ -32,14 +31,14 @@ cast-t8 c =
 shown-level-requires : tie.Need-shown-level-requires
 shown-level-requires c κs = search needs
 
-found-requires : tie.Need-found-requires
-found-requires c κs = search needs
+told-requires : tie.Need-told-requires
+told-requires c κs = search needs
 
 returns-2 : tie.Need-returns-2
 unfolding showLock
 returns-2 c =
     rw (← c .before .before .before .show-number .ensures, eq-eqb _ _ (c .before .before .if1 .left))
-    (c .found .ensures ∙ ap (λ (level : ℕ). found level Clean) (c .before .shown-level .ensures))
+    (c .told .ensures ∙ ap told (c .before .shown-level .ensures))
 
 pub show-spec : {M : Type 1} → statement M
 show-spec =
@@ -50,5 +49,5 @@ show-spec =
     returns
     cast-t8
     shown-level-requires
-    found-requires
+    told-requires
     returns-2)

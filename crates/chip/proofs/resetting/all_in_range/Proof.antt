@@ -6,7 +6,7 @@ use Prim.Native.Nat.{ℕ, _-_, _≤_}
 use native.Mathlib.Omega.{arith}
 use lib.ListN.{length, drop}
 use denote.Ref.{now}
-use Rattle.chip.specs.Latching.{allInRange}
+use Rattle.chip.specs.Resetting.{allInRange}
 use Rattle.chip.proofs.Ranges.{range-next, range-not, range-end}
 use Rattle.chip.proofs.resetting.all_in_range.Statement.{statement}
 use Rattle.chip.proofs.resetting.all_in_range.Tie as tie

@@ -11,8 +11,9 @@ use native.Mathlib.Nat.{mod-eq-of-lt}
 use Rattle.chip.specs.Keys.{keyRow}
 use Rattle.row.specs.declared.answer.Answer.{Answer}
 use Rattle.row.proofs.Syndromes.{read-lt}
-use Rattle.chip.specs.Keys.{wordOf, allDecode}
-use Rattle.chip.specs.Lists.{entry, listed}
+use Rattle.chip.specs.Resetting.{wordOf, allDecode}
+use Rattle.chip.specs.Lists.{listed}
+use Rattle.chip.specs.Slices.{rowAt}
 use Rattle.chip.proofs.Decoding.{decodes, decodes-not}
 use Rattle.chip.proofs.Lists.{listed-more, listed-all}
 use Rattle.chip.proofs.resetting.latched_key.Statement.{statement}
@@ -20,7 +21,7 @@ use Rattle.chip.proofs.resetting.latched_key.Tie as tie
 
 abbrev Inv-loop : tie.InvT-loop
 Inv-loop rows k first flag words₀ whole₀ i₀ words whole i =
-    (i ≤ 8) × (length words ≡ 8) × (take i words ≡ listed i (λ n. wordOf (entry rows (first + n)))) × (whole ≡ allDecode rows first i)
+    (i ≤ 8) × (length words ≡ 8) × (take i words ≡ listed i (λ n. wordOf (rowAt rows (first + n)))) × (whole ≡ allDecode rows first i)
 
 abbrev μ-loop : tie.MeasureT-loop
 μ-loop rows k first flag words₀ whole₀ i₀ words whole i = 8 - i
@@ -87,12 +88,12 @@ loop-again c =
     let first : ℕ = keyRow (s .args .k) in
     let l = c .before .before .before .before .before .before .loop in
     let answer = c .before .before .before .read-row .ensures in
-    let word : c .before .before .before .read-row .result .value % 65536 ≡ wordOf (entry rows (first + l .i)) =
-    ap (λ (a : Answer). a .value % 65536) answer ∙ mod-eq-of-lt (read-lt (entry rows (first + l .i))) in (
+    let word : c .before .before .before .read-row .result .value % 65536 ≡ wordOf (rowAt rows (first + l .i)) =
+    ap (λ (a : Answer). a .value % 65536) answer ∙ mod-eq-of-lt (read-lt (rowAt rows (first + l .i))) in (
       omega arith,
       simp length-set (l .inv .1),
       ap (λ (n : ℕ). take (l .i + 1) (set (l .words) (l .i) n)) word
-          ∙ listed-more (λ n. wordOf (entry rows (first + n))) (l .words) (l .i) (omega arith) (l .inv .2),
+          ∙ listed-more (λ n. wordOf (rowAt rows (first + n))) (l .words) (l .i) (omega arith) (l .inv .2),
       ⊎-elim
           (λ w. w .1 ∙ sym (decodes-not rows first (l .i) (λ e. w .0 .taken (ap (λ (a : Answer). a .number) answer ∙ e))))
           (λ w. w .1 ∙ l .inv .3 ∙ sym (decodes rows first (l .i) (sym (ap (λ (a : Answer). a .number) answer) ∙ w .0 .left)))
@@ -109,9 +110,9 @@ returns c =
     let first : ℕ = keyRow (s .args .k) in
     let l = c .before .before .loop in
     let all : l .i ≡ 8 = omega arith in
-    let words : l .words ≡ listed 8 (λ n. wordOf (entry rows (first + n))) =
-    listed-all (λ n. wordOf (entry rows (first + n))) 8 (l .words) (l .inv .1)
-    (subst (λ (m : ℕ). take m (l .words) ≡ listed m (λ n. wordOf (entry rows (first + n)))) all (l .inv .2)) in
+    let words : l .words ≡ listed 8 (λ n. wordOf (rowAt rows (first + n))) =
+    listed-all (λ n. wordOf (rowAt rows (first + n))) 8 (l .words) (l .inv .1)
+    (subst (λ (m : ℕ). take m (l .words) ≡ listed m (λ n. wordOf (rowAt rows (first + n)))) all (l .inv .2)) in
     let whole : l .whole ≡ allDecode rows first 8 = l .inv .3 ∙ ap (allDecode rows first) all in
     simp (words, whole, c .voted-byte .ensures)
 

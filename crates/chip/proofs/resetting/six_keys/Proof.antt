@@ -6,7 +6,7 @@ use mathlib.Core.Path.{_≡_, refl, ap, _∙_}
 use Prim.Native.Nat.{_+_, _-_, _≤_}
 use native.Mathlib.Omega.{arith}
 use lib.ListN.{length, take, set, length-set}
-use Rattle.chip.specs.Keys.{latchedKey}
+use Rattle.chip.specs.Resetting.{latchedKey}
 use Rattle.chip.specs.Lists.{listed}
 use Rattle.chip.specs.declared.state.Key.{Key}
 use Rattle.chip.proofs.Lists.{listed-more, listed-all}

@@ -8,8 +8,9 @@ use native.Mathlib.Omega.{arith}
 use native.Mathlib.Nat.{add-zero, sub-self}
 use lib.ListN.{length, set, length-set}
 use Rattle.row.specs.declared.writing.Written.{Written}
-use Rattle.chip.specs.Lists.{entry}
-use Rattle.job.specs.Burning.{Progress, writtenOver, withEntry, burntUpward, rehearsed}
+use Rattle.row.specs.Upward.{burntUpward}
+use Rattle.chip.specs.Slices.{rowAt}
+use Rattle.job.specs.Burning.{Progress, writtenOver, withEntry, rehearsed}
 use Rattle.job.specs.Entries.{entryAt, entriesFrom}
 use Rattle.job.specs.Verdicts.{entryWritten}
 use Rattle.job.specs.declared.entries.Entry.{Entry}
@@ -19,12 +20,12 @@ use Rattle.job.proofs.burning.rehearsed.Statement.{statement}
 use Rattle.job.proofs.burning.rehearsed.Tie as tie
 
 abbrev Inv-loop : tie.InvT-loop
-Inv-loop rows₀ job count limit left₀ i₀ rows left i =
-    (i ≤ count) × (left ≤ limit) × (length rows ≡ length rows₀)
-    × (rehearsed rows₀ limit (entriesFrom job 0 count) ≡ ahead (limit - left) i (rehearsed rows left (entriesFrom job i (count - i))))
+Inv-loop rows₀ job count limit unspent₀ i₀ rows unspent i =
+    (i ≤ count) × (unspent ≤ limit) × (length rows ≡ length rows₀)
+    × (rehearsed rows₀ limit (entriesFrom job 0 count) ≡ ahead (limit - unspent) i (rehearsed rows unspent (entriesFrom job i (count - i))))
 
 abbrev μ-loop : tie.MeasureT-loop
-μ-loop rows₀ job count limit left₀ i₀ rows left i = count - i
+μ-loop rows₀ job count limit unspent₀ i₀ rows unspent i = count - i
 
 loop-holds : tie.Need-loop-holds Inv-loop μ-loop
 loop-holds c =
@@ -40,8 +41,8 @@ loop-holds c =
 entry-at-requires : tie.Need-entry-at-requires Inv-loop μ-loop
 entry-at-requires c κs = search needs
 
-entry-of-requires : tie.Need-entry-of-requires Inv-loop μ-loop
-entry-of-requires c κs = search needs
+row-at-requires : tie.Need-row-at-requires Inv-loop μ-loop
+row-at-requires c κs = search needs
 
 entry-written-requires : tie.Need-entry-written-requires Inv-loop μ-loop
 entry-written-requires c κs = search needs
@@ -63,16 +64,16 @@ returns c =
     let job = now (s .job) in
     let l = c .before .before .before .before .before .before .before .before .before .before .before .loop in
     let written : c .before .before .before .before .before .before .entry-written .result ≡ writtenOver (l .rows) (entryAt job (l .i)) =
-    c .before .before .before .before .before .before .entry-written .ensures ∙ ap (λ (old : ℕ). entryWritten old (c .before .before .before .before .before .before .before .before .before .entry-at .result)) (c .before .before .before .before .before .before .before .entry-of .ensures)
+    c .before .before .before .before .before .before .entry-written .ensures ∙ ap (λ (old : ℕ). entryWritten old (c .before .before .before .before .before .before .before .before .before .entry-at .result)) (c .before .before .before .before .before .before .before .row-at .ensures)
     ∙ ap (λ (e : Entry). writtenOver (l .rows) e) (c .before .before .before .before .before .before .before .before .before .entry-at .ensures) in
-    let short : l .left < writtenOver (l .rows) (entryAt job (l .i)) .pulses =
-    subst (λ (w : Written). l .left < w .pulses) written (c .before .before .before .before .before .if1 .taken) in
-    let whole = l .inv .3 ∙ ap (ahead (s .limit - l .left) (l .i)) (burn-stops job (s .count) (l .rows) (l .left) (l .i) (omega arith) short) in
+    let short : l .unspent < writtenOver (l .rows) (entryAt job (l .i)) .pulses =
+    subst (λ (w : Written). l .unspent < w .pulses) written (c .before .before .before .before .before .if1 .taken) in
+    let whole = l .inv .3 ∙ ap (ahead (s .limit - l .unspent) (l .i)) (burn-stops job (s .count) (l .rows) (l .unspent) (l .i) (omega arith) short) in
     let row = ap (λ (e : Entry). e .row) (c .before .before .before .before .before .before .before .before .before .entry-at .ensures) in
-    let cut : c .before .before .before .burnt-upward .result ≡ burntUpward (l .left) (entry (l .rows) (entryAt job (l .i) .row)) (writtenOver (l .rows) (entryAt job (l .i)) .row) =
+    let cut : c .before .before .before .burnt-upward .result ≡ burntUpward (l .unspent) (rowAt (l .rows) (entryAt job (l .i) .row)) (writtenOver (l .rows) (entryAt job (l .i)) .row) =
     c .before .before .before .burnt-upward .ensures
-    ∙ ap₂ (burntUpward (l .left)) (c .before .before .before .before .before .before .before .entry-of .ensures ∙ ap (entry (l .rows)) row) (ap (λ (w : Written). w .row) written) in
-    let all : s .limit - l .left + l .left ≡ s .limit = omega arith in (
+    ∙ ap₂ (burntUpward (l .unspent)) (c .before .before .before .before .before .before .before .row-at .ensures ∙ ap (rowAt (l .rows)) row) (ap (λ (w : Written). w .row) written) in
+    let all : s .limit - l .unspent + l .unspent ≡ s .limit = omega arith in (
       c .before .before .put .ensures ∙ ap₂ (set (l .rows)) row cut ∙ sym (ap (λ (p : Progress). p .rows) whole),
       sym (ap (λ (p : Progress). p .pulses) whole ∙ all),
       sym (ap (λ (p : Progress). p .place) whole ∙ add-zero (l .i)),
@@ -93,22 +94,22 @@ loop-again c =
     let job = now (s .job) in
     let l = c .before .before .before .before .before .before .before .before .before .before .loop in
     let written : c .before .before .before .before .before .entry-written .result ≡ writtenOver (l .rows) (entryAt job (l .i)) =
-    c .before .before .before .before .before .entry-written .ensures ∙ ap (λ (old : ℕ). entryWritten old (c .before .before .before .before .before .before .before .before .entry-at .result)) (c .before .before .before .before .before .before .entry-of .ensures)
+    c .before .before .before .before .before .entry-written .ensures ∙ ap (λ (old : ℕ). entryWritten old (c .before .before .before .before .before .before .before .before .entry-at .result)) (c .before .before .before .before .before .before .row-at .ensures)
     ∙ ap (λ (e : Entry). writtenOver (l .rows) e) (c .before .before .before .before .before .before .before .before .entry-at .ensures) in
     let u : ℕ = c .before .before .before .before .before .entry-written .result .pulses in
     let row = ap (λ (e : Entry). e .row) (c .before .before .before .before .before .before .before .before .entry-at .ensures) in
     let next : c .before .before .put2 .last .0 ≡ withEntry (l .rows) (entryAt job (l .i)) =
     c .before .before .put2 .ensures ∙ ap₂ (set (l .rows)) row (ap (λ (w : Written). w .row) written) in
-    let enough : u ≤ l .left = c .before .before .before .before .if1 .left in
-    let spent : s .limit - l .left + u ≡ s .limit - (l .left - u) = omega arith in (
+    let enough : u ≤ l .unspent = c .before .before .before .before .if1 .left in
+    let spent : s .limit - l .unspent + u ≡ s .limit - (l .unspent - u) = omega arith in (
       omega arith,
       omega arith,
       ap length (c .before .before .put2 .ensures) ∙ length-set (l .rows) (c .before .before .before .before .before .before .before .before .entry-at .result .row) (c .before .before .before .before .before .entry-written .result .row) ∙ l .inv .2,
       l .inv .3
-          ∙ ap (ahead (s .limit - l .left) (l .i))
-          (burn-next job (s .count) (l .rows) (l .left) (l .i) (omega arith) (c .before .before .put2 .last .0) u (ap (λ (w : Written). w .pulses) written) next enough)
-          ∙ one-ahead (s .limit - l .left) (l .i) u _
-          ∙ ap (λ (n : ℕ). ahead n (l .i + 1) (rehearsed (c .before .before .put2 .last .0) (l .left - u) (entriesFrom job (l .i + 1) (s .count - (l .i + 1))))) spent,
+          ∙ ap (ahead (s .limit - l .unspent) (l .i))
+          (burn-next job (s .count) (l .rows) (l .unspent) (l .i) (omega arith) (c .before .before .put2 .last .0) u (ap (λ (w : Written). w .pulses) written) next enough)
+          ∙ one-ahead (s .limit - l .unspent) (l .i) u _
+          ∙ ap (λ (n : ℕ). ahead n (l .i + 1) (rehearsed (c .before .before .put2 .last .0) (l .unspent - u) (entriesFrom job (l .i + 1) (s .count - (l .i + 1))))) spent,
     )
 
 sub-t22 : tie.Need-sub-t22 Inv-loop μ-loop
@@ -121,10 +122,10 @@ returns-2 : tie.Need-returns-2 Inv-loop μ-loop
 returns-2 c =
     let s = c .before .before .before .before .args in
     let l = c .before .loop in
-    let whole = l .inv .3 ∙ ap (ahead (s .limit - l .left) (l .i)) (burn-ends (now (s .job)) (s .count) (l .rows) (l .left) (l .i) (omega arith)) in
+    let whole = l .inv .3 ∙ ap (ahead (s .limit - l .unspent) (l .i)) (burn-ends (now (s .job)) (s .count) (l .rows) (l .unspent) (l .i) (omega arith)) in
     let all : l .i + 0 ≡ s .count = omega arith in (
       sym (ap (λ (p : Progress). p .rows) whole),
-      sym (ap (λ (p : Progress). p .pulses) whole ∙ add-zero (s .limit - l .left)),
+      sym (ap (λ (p : Progress). p .pulses) whole ∙ add-zero (s .limit - l .unspent)),
       sym (ap (λ (p : Progress). p .place) whole ∙ all),
     )
 
@@ -136,7 +137,7 @@ rehearsed-spec =
     μ-loop
     loop-holds
     entry-at-requires
-    entry-of-requires
+    row-at-requires
     entry-written-requires
     burnt-upward-requires
     put-requires

@@ -9,8 +9,8 @@ use Rattle.job.proofs.jobs.rehearse.Tie as tie
 verdict-of-requires : tie.Need-verdict-of-requires
 verdict-of-requires c κs = search needs
 
-answer-of-requires : tie.Need-answer-of-requires
-answer-of-requires c κs = search needs
+refused-at-requires : tie.Need-refused-at-requires
+refused-at-requires c κs = search needs
 
 same-length : tie.Need-same-length
 same-length c = search needs
@@ -18,7 +18,7 @@ same-length c = search needs
 returns : tie.Need-returns
 unfolding rehearse
 returns c = (
-  rw (← c .before .before .verdict-of .ensures, ne-eqb _ _ (c .before .if1 .taken)) (simp (c .answer-of .ensures)),
+  rw (← c .before .before .verdict-of .ensures, ne-eqb _ _ (c .before .if1 .taken)) (simp (c .refused-at .ensures)),
   rw (← c .before .before .verdict-of .ensures, ne-eqb _ _ (c .before .if1 .taken)),
 )
 
@@ -28,8 +28,8 @@ count-of-requires c κs = search needs
 rehearsed-requires : tie.Need-rehearsed-requires
 rehearsed-requires c κs = search needs
 
-answer-of-requires-2 : tie.Need-answer-of-requires-2
-answer-of-requires-2 c κs = search needs
+spent-requires : tie.Need-spent-requires
+spent-requires c κs = search needs
 
 same-length-2 : tie.Need-same-length-2
 same-length-2 c = search needs
@@ -37,9 +37,9 @@ same-length-2 c = search needs
 returns-2 : tie.Need-returns-2
 unfolding rehearse
 returns-2 c = (
-  rw (← c .before .before .before .before .before .before .before .verdict-of .ensures, eq-eqb _ _ (c .before .before .before .before .before .before .if1 .left), ← c .before .before .before .before .count-of .ensures)
-      (simp (c .answer-of2 .ensures, c .before .before .before .rehearsed .ensures .1, c .before .before .before .rehearsed .ensures .2)),
-  rw (← c .before .before .before .before .before .before .before .verdict-of .ensures, eq-eqb _ _ (c .before .before .before .before .before .before .if1 .left), ← c .before .before .before .before .count-of .ensures) (c .before .before .before .rehearsed .ensures .0),
+  rw (← c .before .before .before .before .before .before .before .verdict-of .ensures, eq-eqb _ _ (c .before .before .before .before .before .before .if1 .left), ← c .before .before .before .before .count-of .ensures .0)
+      (simp (c .spent .ensures, c .before .before .before .rehearsed .ensures .1, c .before .before .before .rehearsed .ensures .2)),
+  rw (← c .before .before .before .before .before .before .before .verdict-of .ensures, eq-eqb _ _ (c .before .before .before .before .before .before .if1 .left), ← c .before .before .before .before .count-of .ensures .0) (c .before .before .before .rehearsed .ensures .0),
 )
 
 pub rehearse-spec : {M : Type 1} → statement M
@@ -47,11 +47,11 @@ rehearse-spec =
     tie.close
     (tie.spec
     verdict-of-requires
-    answer-of-requires
+    refused-at-requires
     same-length
     returns
     count-of-requires
     rehearsed-requires
-    answer-of-requires-2
+    spent-requires
     same-length-2
     returns-2)

@@ -8,27 +8,28 @@ use Prim.Native.Nat.{ℕ, _-_, _≤_}
 use native.Mathlib.Omega.{arith}
 use mathlib.Core.Bool.{Bool}
 use mathlib.Core.List.{List}
+use Rattle.row.specs.Rungs.{firstOf}
 use Rattle.chip.specs.Permission.{mayWrite}
 use Rattle.chip.specs.declared.state.State.{State}
 use Rattle.job.specs.Entries.{entriesFrom}
 use Rattle.job.specs.declared.entries.Entry.{Entry}
-use Rattle.job.specs.Verdicts.{numberIf, entryNumber, judgedFrom}
+use Rattle.job.specs.Verdicts.{entryRungs, allRungs, verdict}
 use Rattle.job.specs.declared.verdicts.Verdict.{Verdict}
 use Rattle.job.proofs.Upward.{all-left, none-left, judged-stops, judged-next}
 use Rattle.job.proofs.verdicts.judged.Statement.{statement}
 use Rattle.job.proofs.verdicts.judged.Tie as tie
 
-abbrev verdict : ℕ → ℕ → Verdict
-verdict number place = record { number = number; place = place }
+abbrev at-place : ℕ → ℕ → Verdict
+at-place number place = record { number = number; place = place }
 
 abbrev Inv-loop : tie.InvT-loop
-Inv-loop rows state job count may leave₀ i₀ leave i =
+Inv-loop rows state job count may permit₀ i₀ permit i =
     (i ≤ count)
-    × (leave .may ≡ mayWrite state 0 (leave .row))
-    × (judgedFrom rows state 0 (entriesFrom job 0 count) ≡ judgedFrom rows state i (entriesFrom job i (count - i)))
+    × (permit .may ≡ mayWrite state 0 (permit .row))
+    × (verdict (allRungs rows state 0 (entriesFrom job 0 count)) ≡ verdict (allRungs rows state i (entriesFrom job i (count - i))))
 
 abbrev μ-loop : tie.MeasureT-loop
-μ-loop rows state job count may leave₀ i₀ leave i = count - i
+μ-loop rows state job count may permit₀ i₀ permit i = count - i
 
 may-write-requires : tie.Need-may-write-requires Inv-loop μ-loop
 may-write-requires c κs = search needs
@@ -38,32 +39,34 @@ loop-holds c =
     let s = c .before .before .before .args in (
       search needs,
       c .may-write .ensures,
-      ap (judgedFrom (now (s .rows)) (s .state) 0) (all-left (now (s .job)) (s .count)),
+      ap (λ (es : List Entry). verdict (allRungs (now (s .rows)) (s .state) 0 es)) (all-left (now (s .job)) (s .count)),
     )
 
 entry-at-requires : tie.Need-entry-at-requires Inv-loop μ-loop
 entry-at-requires c κs = search needs
 
-leave-for-requires : tie.Need-leave-for-requires Inv-loop μ-loop
-leave-for-requires c κs = c .before .before .loop .inv .1
+permit-for-requires : tie.Need-permit-for-requires Inv-loop μ-loop
+permit-for-requires c κs = c .before .before .loop .inv .1
 
 entry-number-requires : tie.Need-entry-number-requires Inv-loop μ-loop
 entry-number-requires c κs = search needs
 
--- what was learnt of the entry is what its definition says
-of-entry : (rows : List ℕ) (state : State) (e entry : Entry) (may : Bool) (number : ℕ)
-    → e ≡ entry → may ≡ mayWrite state 0 (e .row) → number ≡ numberIf may rows e → number ≡ entryNumber rows state entry
-unfolding entryNumber
-of-entry rows state e entry may number same leave answered =
-    answered ∙ ap (λ (m : Bool). numberIf m rows e) leave ∙ ap (λ (x : Entry). numberIf (mayWrite state 0 (x .row)) rows x) same
+-- what was learnt of the entry is what its definition says, whichever it is
+of-entry : (rows : List ℕ) (state : State) (i : ℕ) (e entry : Entry) (may : Bool) (number : ℕ)
+    → e ≡ entry → may ≡ mayWrite state 0 (e .row) → number ≡ firstOf (entryRungs rows may 0 e)
+    → number ≡ firstOf (entryRungs rows (mayWrite state 0 (entry .row)) i entry)
+unfolding entryRungs
+of-entry rows state i e entry may number same permit answered =
+    answered ∙ ap (λ (m : Bool). firstOf (entryRungs rows m i e)) permit
+    ∙ ap (λ (x : Entry). firstOf (entryRungs rows (mayWrite state 0 (x .row)) i x)) same
 
 returns : tie.Need-returns Inv-loop μ-loop
 returns c =
     let s = c .before .before .before .before .before .before .before .before .before .args in
     let l = c .before .before .before .before .before .loop in
-    let number = of-entry (now (s .rows)) (s .state) _ _ _ _ (c .before .before .before .entry-at .ensures) (c .before .before .leave-for .ensures .1) (c .before .entry-number .ensures) in
+    let number = of-entry (now (s .rows)) (s .state) (l .i) _ _ _ _ (c .before .before .before .entry-at .ensures) (c .before .before .permit-for .ensures .1) (c .before .entry-number .ensures) in
     sym (l .inv .2 ∙ judged-stops (now (s .job)) (s .count) (l .i) (omega arith) (now (s .rows)) (s .state) (λ e. c .if1 .taken (number ∙ e))
-    ∙ ap (λ (n : ℕ). verdict n (l .i)) (sym number))
+    ∙ ap (λ (n : ℕ). at-place n (l .i)) (sym number))
 
 add-i : tie.Need-add-i Inv-loop μ-loop
 add-i c = omega arith
@@ -75,20 +78,20 @@ loop-again : tie.Need-loop-again Inv-loop μ-loop
 loop-again c =
     let s = c .before .before .before .before .before .before .before .before .before .args in
     let l = c .before .before .before .before .before .loop in
-    let leave = c .before .before .leave-for in
-    let number = of-entry (now (s .rows)) (s .state) _ _ _ _ (c .before .before .before .entry-at .ensures) (leave .ensures .1) (c .before .entry-number .ensures) in (
+    let permit = c .before .before .permit-for in
+    let number = of-entry (now (s .rows)) (s .state) (l .i) _ _ _ _ (c .before .before .before .entry-at .ensures) (permit .ensures .1) (c .before .entry-number .ensures) in (
       omega arith,
-      leave .ensures .1 ∙ ap (mayWrite (s .state) 0) (sym (leave .ensures .0)),
+      permit .ensures .1 ∙ ap (mayWrite (s .state) 0) (sym (permit .ensures .0)),
       l .inv .2
           ∙ judged-next (now (s .job)) (s .count) (l .i) (omega arith) (now (s .rows)) (s .state) (sym number ∙ c .if1 .left),
     )
 
 returns-2 : tie.Need-returns-2 Inv-loop μ-loop
-unfolding judgedFrom
+unfolding allRungs
 returns-2 c =
     let s = c .before .before .before .before .before .args in
     let l = c .before .loop in
-    sym (l .inv .2 ∙ ap (judgedFrom (now (s .rows)) (s .state) (l .i)) (none-left (now (s .job)) (s .count) (l .i) (omega arith)))
+    sym (l .inv .2 ∙ ap (λ (es : List Entry). verdict (allRungs (now (s .rows)) (s .state) (l .i) es)) (none-left (now (s .job)) (s .count) (l .i) (omega arith)))
 
 pub judged-spec : {M : Type 1} → statement M
 judged-spec =
@@ -99,7 +102,7 @@ judged-spec =
     may-write-requires
     loop-holds
     entry-at-requires
-    leave-for-requires
+    permit-for-requires
     entry-number-requires
     returns
     add-i

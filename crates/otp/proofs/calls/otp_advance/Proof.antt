@@ -6,14 +6,8 @@ use Rattle.otp.specs.Flat.{flatOutcome}
 use Rattle.otp.proofs.calls.otp_advance.Statement.{statement}
 use Rattle.otp.proofs.calls.otp_advance.Tie as tie
 
-advance-requires : tie.Need-advance-requires
-advance-requires c κs = search needs
-
-flat-outcome-requires : tie.Need-flat-outcome-requires
-flat-outcome-requires c κs = search needs
-
 returns : tie.Need-returns
 returns c = c .flat-outcome .ensures ∙ ap flatOutcome (c .before .advance .ensures)
 
 pub otp-advance-spec : {M : Type 1} → statement M
-otp-advance-spec = tie.close (tie.spec advance-requires flat-outcome-requires returns)
+otp-advance-spec = tie.close (tie.spec (λ c κs. search needs) (λ c κs. search needs) returns)

@@ -6,14 +6,8 @@ use Rattle.otp.specs.Flat.{flatOutcome}
 use Rattle.otp.proofs.calls.otp_enter_key.Statement.{statement}
 use Rattle.otp.proofs.calls.otp_enter_key.Tie as tie
 
-enter-key-requires : tie.Need-enter-key-requires
-enter-key-requires c κs = search needs
-
-flat-outcome-requires : tie.Need-flat-outcome-requires
-flat-outcome-requires c κs = search needs
-
 returns : tie.Need-returns
 returns c = c .flat-outcome .ensures ∙ ap flatOutcome (c .before .enter-key .ensures)
 
 pub otp-enter-key-spec : {M : Type 1} → statement M
-otp-enter-key-spec = tie.close (tie.spec enter-key-requires flat-outcome-requires returns)
+otp-enter-key-spec = tie.close (tie.spec (λ c κs. search needs) (λ c κs. search needs) returns)

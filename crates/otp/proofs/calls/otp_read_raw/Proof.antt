@@ -6,14 +6,8 @@ use Rattle.otp.specs.Flat.{flatAnswer}
 use Rattle.otp.proofs.calls.otp_read_raw.Statement.{statement}
 use Rattle.otp.proofs.calls.otp_read_raw.Tie as tie
 
-read-raw-requires : tie.Need-read-raw-requires
-read-raw-requires c κs = search needs
-
-flat-answer-requires : tie.Need-flat-answer-requires
-flat-answer-requires c κs = search needs
-
 returns : tie.Need-returns
 returns c = c .flat-answer .ensures ∙ ap flatAnswer (c .before .read-raw .ensures)
 
 pub otp-read-raw-spec : {M : Type 1} → statement M
-otp-read-raw-spec = tie.close (tie.spec read-raw-requires flat-answer-requires returns)
+otp-read-raw-spec = tie.close (tie.spec (λ c κs. search needs) (λ c κs. search needs) returns)

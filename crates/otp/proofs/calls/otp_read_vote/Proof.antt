@@ -6,14 +6,8 @@ use Rattle.otp.specs.Flat.{flatAnswer}
 use Rattle.otp.proofs.calls.otp_read_vote.Statement.{statement}
 use Rattle.otp.proofs.calls.otp_read_vote.Tie as tie
 
-read-vote-requires : tie.Need-read-vote-requires
-read-vote-requires c κs = search needs
-
-flat-answer-requires : tie.Need-flat-answer-requires
-flat-answer-requires c κs = search needs
-
 returns : tie.Need-returns
 returns c = c .flat-answer .ensures ∙ ap flatAnswer (c .before .read-vote .ensures)
 
 pub otp-read-vote-spec : {M : Type 1} → statement M
-otp-read-vote-spec = tie.close (tie.spec read-vote-requires flat-answer-requires returns)
+otp-read-vote-spec = tie.close (tie.spec (λ c κs. search needs) (λ c κs. search needs) returns)

@@ -6,14 +6,8 @@ use Rattle.otp.specs.Flat.{flatOutcome}
 use Rattle.otp.proofs.calls.otp_reset.Statement.{statement}
 use Rattle.otp.proofs.calls.otp_reset.Tie as tie
 
-reset-requires : tie.Need-reset-requires
-reset-requires c κs = search needs
-
-flat-outcome-requires : tie.Need-flat-outcome-requires
-flat-outcome-requires c κs = search needs
-
 returns : tie.Need-returns
 returns c = c .flat-outcome .ensures ∙ ap flatOutcome (c .before .reset .ensures)
 
 pub otp-reset-spec : {M : Type 1} → statement M
-otp-reset-spec = tie.close (tie.spec reset-requires flat-outcome-requires returns)
+otp-reset-spec = tie.close (tie.spec (λ c κs. search needs) (λ c κs. search needs) returns)

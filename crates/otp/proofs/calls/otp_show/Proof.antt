@@ -6,14 +6,8 @@ use Rattle.otp.specs.Flat.{flatAnswer}
 use Rattle.otp.proofs.calls.otp_show.Statement.{statement}
 use Rattle.otp.proofs.calls.otp_show.Tie as tie
 
-show-requires : tie.Need-show-requires
-show-requires c κs = search needs
-
-flat-answer-requires : tie.Need-flat-answer-requires
-flat-answer-requires c κs = search needs
-
 returns : tie.Need-returns
 returns c = c .flat-answer .ensures ∙ ap flatAnswer (c .before .show .ensures)
 
 pub otp-show-spec : {M : Type 1} → statement M
-otp-show-spec = tie.close (tie.spec show-requires flat-answer-requires returns)
+otp-show-spec = tie.close (tie.spec (λ c κs. search needs) (λ c κs. search needs) returns)

@@ -4,7 +4,7 @@ use borrow.Author.Needs.{needs}
 use mathlib.Core.Path.{_≡_, sym, ap, _∙_}
 use mathlib.Core.Bool.{true, false}
 use Rattle.row.specs.Code.{plain, inverted}
-use Rattle.row.specs.Writing.{fits, burnt}
+use Rattle.row.specs.Writing.{fits, burntOver}
 use Rattle.row.proofs.writing.write_ecc.Statement.{statement}
 use Rattle.row.proofs.writing.write_ecc.Tie as tie
 
@@ -14,8 +14,8 @@ plain-requires c κs = search needs
 fits-requires : tie.Need-fits-requires
 fits-requires c κs = search needs
 
-burnt-requires : tie.Need-burnt-requires
-burnt-requires c κs = search needs
+burnt-over-requires : tie.Need-burnt-over-requires
+burnt-over-requires c κs = search needs
 
 returns : tie.Need-returns
 returns c =
@@ -23,7 +23,7 @@ returns c =
     let p = c .before .before .before in
     let plain-fits : fits (s .args .old) (plain (s .args .value)) ≡ true =
     ap (fits (s .args .old)) (sym (p .plain .ensures)) ∙ sym (c .before .before .fits2 .ensures) ∙ c .before .if1 .taken in
-    simp plain-fits (c .burnt .ensures ∙ ap (burnt (s .args .old)) (p .plain .ensures))
+    simp plain-fits (c .burnt-over .ensures ∙ ap (burntOver (s .args .old)) (p .plain .ensures))
 
 inverted-requires : tie.Need-inverted-requires
 inverted-requires c κs = search needs
@@ -31,8 +31,8 @@ inverted-requires c κs = search needs
 fits-requires-2 : tie.Need-fits-requires-2
 fits-requires-2 c κs = search needs
 
-burnt-requires-2 : tie.Need-burnt-requires-2
-burnt-requires-2 c κs = search needs
+burnt-over-requires-2 : tie.Need-burnt-over-requires-2
+burnt-over-requires-2 c κs = search needs
 
 returns-2 : tie.Need-returns-2
 returns-2 c =
@@ -44,7 +44,7 @@ returns-2 c =
     ∙ c .before .before .before .before .if1 .left in
     let inverted-fits : fits (s .args .old) (inverted (s .args .value)) ≡ true =
     ap (fits (s .args .old)) (sym (i .inverted .ensures)) ∙ sym (c .before .before .fits3 .ensures) ∙ c .before .if2 .taken in
-    simp (plain-fails, inverted-fits) (c .burnt2 .ensures ∙ ap (burnt (s .args .old)) (i .inverted .ensures))
+    simp (plain-fails, inverted-fits) (c .burnt-over2 .ensures ∙ ap (burntOver (s .args .old)) (i .inverted .ensures))
 
 returns-3 : tie.Need-returns-3
 returns-3 c =
@@ -64,10 +64,10 @@ write-ecc-spec =
     (tie.spec
     plain-requires
     fits-requires
-    burnt-requires
+    burnt-over-requires
     returns
     inverted-requires
     fits-requires-2
-    burnt-requires-2
+    burnt-over-requires-2
     returns-2
     returns-3)

@@ -1,0 +1,157 @@
+-- Faults: a fault goes before the next, and each fault has its number.
+-- Assumes nothing.
+use mathlib.Core.Path.{_≡_, refl, ap, _∙_}
+use mathlib.Core.Bool.{Bool, true, false, not}
+use mathlib.Core.List.{List, _∷_}
+use Prim.Native.Nat.{ℕ, _+_, _-_, _≤_, _<_}
+use native.Mathlib.Omega.{arith}
+use borrow.Author.Tests.{eq-eqb, ne-eqb, eqb-false, leb-false, ltb-false}
+use lib.Dec.{eqb, leb, ltb}
+use lib.ListN.{length}
+use Rattle.row.specs.Choice.{if_then_else_}
+use Rattle.row.specs.Rungs.{Rung, _when_}
+use Rattle.row.proofs.Ladders.{never-zero}
+use Rattle.job.specs.Entries.{versionOf, countOf, entryAt, entriesFrom, entriesOf}
+use Rattle.job.specs.Faults.{faultNumber, _otherwise_, marked, headFault, formFault, formFaults, orderFault, orderFaults, faultOf}
+use Rattle.job.specs.Verdicts.{verdict}
+use Rattle.job.specs.declared.entries.Entry.{Entry}
+use Rattle.job.specs.declared.faults.Fault.{Fault}
+use Rattle.job.specs.declared.faults.Fault.the-variants.{Sound, Short, Mark, Version, Count, Length, Kind, Value, High, Order}
+use Rattle.job.proofs.Upward.{next-left}
+
+fault-stops : (fault next : Fault) → (faultNumber fault ≡ 0 → ⊥) → (fault otherwise next) ≡ fault
+fault-stops fault next some = rw (ne-eqb (faultNumber fault) 0 some)
+
+fault-next : (fault next : Fault) → faultNumber fault ≡ 0 → (fault otherwise next) ≡ next
+fault-next fault next none = rw (eq-eqb (faultNumber fault) 0 none)
+
+-- the entries that are left: the next one's fault, or what the others have
+module _ (job : List ℕ) (count i : ℕ) (h : i < count) where
+  abbrev form : Fault
+  form = formFault i (entryAt job i)
+
+  abbrev forms : Fault
+  forms = formFaults (i + 1) (entriesFrom job (i + 1) (count - (i + 1)))
+
+  pub form-stops : (faultNumber form ≡ 0 → ⊥) → formFaults i (entriesFrom job i (count - i)) ≡ form
+  unfolding formFaults
+  form-stops some = rw (next-left job count i h) (fault-stops form forms some)
+
+  pub form-next : faultNumber form ≡ 0 → formFaults i (entriesFrom job i (count - i)) ≡ forms
+  unfolding formFaults
+  form-next none = rw (next-left job count i h) (fault-next form forms none)
+
+  module _ (least : ℕ) where
+    abbrev order : Fault
+    order = orderFault i least (entryAt job i)
+
+    abbrev orders : Fault
+    orders = orderFaults (i + 1) (entryAt job i .row + 1) (entriesFrom job (i + 1) (count - (i + 1)))
+
+    pub order-stops : (faultNumber order ≡ 0 → ⊥) → orderFaults i least (entriesFrom job i (count - i)) ≡ order
+    unfolding orderFaults
+    order-stops some = rw (next-left job count i h) (fault-stops order orders some)
+
+    pub order-next : faultNumber order ≡ 0 → orderFaults i least (entriesFrom job i (count - i)) ≡ orders
+    unfolding orderFaults
+    order-next none = rw (next-left job count i h) (fault-next order orders none)
+
+-- the head, then the forms, then the order
+pub head-stops : (job : List ℕ) → (faultNumber (headFault job) ≡ 0 → ⊥) → faultOf job ≡ headFault job
+unfolding faultOf
+head-stops job some = fault-stops (headFault job) _ some
+
+pub form-stops-all : (job : List ℕ) → faultNumber (headFault job) ≡ 0 → (faultNumber (formFaults 0 (entriesOf job)) ≡ 0 → ⊥)
+    → faultOf job ≡ formFaults 0 (entriesOf job)
+unfolding faultOf
+form-stops-all job none some = fault-next (headFault job) _ none ∙ fault-stops (formFaults 0 (entriesOf job)) _ some
+
+pub order-last : (job : List ℕ) → faultNumber (headFault job) ≡ 0 → faultNumber (formFaults 0 (entriesOf job)) ≡ 0
+    → faultOf job ≡ orderFaults 0 0 (entriesOf job)
+unfolding faultOf
+order-last job none no-form = fault-next (headFault job) _ none ∙ fault-next (formFaults 0 (entriesOf job)) _ no-form
+
+-- a row in order is below 0xf40 and not below the least
+pub order-kept : (i least : ℕ) (e : Entry) → faultNumber (orderFault i least e) ≡ 0 → (e .row < 0xf40) × (least ≤ e .row)
+order-kept i least e none = go (leb 0xf40 (e .row)) (ltb (e .row) least) refl refl
+  where
+    go : (high low : Bool) → leb 0xf40 (e .row) ≡ high → ltb (e .row) least ≡ low → (e .row < 0xf40) × (least ≤ e .row)
+    go true low is-high is-low = let eleven : _≡_ {A = ℕ} 11 0 = rw is-high at none in absurd (omega arith)
+    go false true is-high is-low = let eleven : _≡_ {A = ℕ} 11 0 = rw (is-high, is-low) at none in absurd (omega arith)
+    go false false is-high is-low = (leb-false 0xf40 (e .row) is-high, ltb-false (e .row) least is-low)
+
+-- the two rungs of a fault, and then the rest
+module _ (rest : List Rung) where
+  abbrev own : Fault → List Rung
+  own fault = 10 when eqb (faultNumber fault) 10 ∷ 11 when eqb (faultNumber fault) 11 ∷ rest
+
+  pub rungs-stop : (fault : Fault) → (faultNumber fault ≡ 0 → ⊥) → verdict (own fault) ≡ record { number = faultNumber fault; place = 0 }
+  rungs-stop Sound some = absurd (some refl)
+  rungs-stop Short some = refl
+  rungs-stop Mark some = refl
+  rungs-stop Version some = refl
+  rungs-stop Count some = refl
+  rungs-stop Length some = refl
+  rungs-stop (Kind i) some = refl
+  rungs-stop (Value i) some = refl
+  rungs-stop (High i) some = refl
+  rungs-stop (Order i) some = refl
+
+  pub rungs-next : (fault : Fault) → faultNumber fault ≡ 0 → verdict (own fault) ≡ verdict rest
+  rungs-next Sound none = refl
+  rungs-next Short none = absurd (omega arith)
+  rungs-next Mark none = absurd (omega arith)
+  rungs-next Version none = absurd (omega arith)
+  rungs-next Count none = absurd (omega arith)
+  rungs-next Length none = absurd (omega arith)
+  rungs-next (Kind i) none = absurd (omega arith)
+  rungs-next (Value i) none = absurd (omega arith)
+  rungs-next (High i) none = absurd (omega arith)
+  rungs-next (Order i) none = absurd (omega arith)
+
+-- ---- no fault
+
+-- neither number: no fault
+pub no-fault : (fault : Fault) → eqb (faultNumber fault) 10 ≡ false → eqb (faultNumber fault) 11 ≡ false → fault ≡ Sound
+no-fault Sound ten eleven = refl
+no-fault Short ten eleven = absurd (eqb-false 10 10 ten refl)
+no-fault Mark ten eleven = absurd (eqb-false 10 10 ten refl)
+no-fault Version ten eleven = absurd (eqb-false 10 10 ten refl)
+no-fault Count ten eleven = absurd (eqb-false 10 10 ten refl)
+no-fault Length ten eleven = absurd (eqb-false 10 10 ten refl)
+no-fault (Kind i) ten eleven = absurd (eqb-false 10 10 ten refl)
+no-fault (Value i) ten eleven = absurd (eqb-false 10 10 ten refl)
+no-fault (High i) ten eleven = absurd (eqb-false 11 11 eleven refl)
+no-fault (Order i) ten eleven = absurd (eqb-false 11 11 eleven refl)
+
+-- none in both: none in either
+pub both-sound : (fault next : Fault) → (fault otherwise next) ≡ Sound → (fault ≡ Sound) × (next ≡ Sound)
+both-sound Sound next e = (refl, e)
+both-sound Short next e = absurd (never-zero 9 (ap faultNumber e))
+both-sound Mark next e = absurd (never-zero 9 (ap faultNumber e))
+both-sound Version next e = absurd (never-zero 9 (ap faultNumber e))
+both-sound Count next e = absurd (never-zero 9 (ap faultNumber e))
+both-sound Length next e = absurd (never-zero 9 (ap faultNumber e))
+both-sound (Kind i) next e = absurd (never-zero 9 (ap faultNumber e))
+both-sound (Value i) next e = absurd (never-zero 9 (ap faultNumber e))
+both-sound (High i) next e = absurd (never-zero 10 (ap faultNumber e))
+both-sound (Order i) next e = absurd (never-zero 10 (ap faultNumber e))
+
+-- what a sound head has passed
+head-passed : (t : Bool) (fault next : Fault) → (faultNumber fault ≡ 0 → ⊥) → (if t then fault else next) ≡ Sound → (t ≡ false) × (next ≡ Sound)
+head-passed true fault next some e = absurd (some (ap faultNumber e))
+head-passed false fault next some e = (refl, e)
+
+-- a sound head has at most 512 entries
+pub head-count : (job : List ℕ) → headFault job ≡ Sound → countOf job ≤ 512
+unfolding headFault
+head-count job e =
+    let long = head-passed (ltb (length job) 7) Short _ (never-zero 9) e in
+    let mark = head-passed (not (marked job)) Mark _ (never-zero 9) (long .1) in
+    let version = head-passed (not (eqb (versionOf job) 1)) Version _ (never-zero 9) (mark .1) in
+    ltb-false 512 (countOf job) (head-passed (ltb 512 (countOf job)) Count _ (never-zero 9) (version .1) .0)
+
+-- a sound job's rows are in order
+pub order-sound : (job : List ℕ) → faultOf job ≡ Sound → orderFaults 0 0 (entriesOf job) ≡ Sound
+unfolding faultOf
+order-sound job e = both-sound (formFaults 0 (entriesOf job)) _ (both-sound (headFault job) _ e .1) .1

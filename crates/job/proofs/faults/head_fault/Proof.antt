@@ -1,0 +1,107 @@
+-- `job::faults::head_fault` meets its contract: each answer by the tests that led to it.
+-- Assumes nothing.
+use borrow.Author.Needs.{needs}
+use borrow.Author.Tests.{lt-ltb, le-ltb, eq-eqb, ne-eqb, not-true, not-false}
+use Rattle.job.specs.Faults.{headFault}
+use Rattle.job.proofs.faults.head_fault.Statement.{statement}
+use Rattle.job.proofs.faults.head_fault.Tie as tie
+
+returns : tie.Need-returns
+unfolding headFault
+returns c = rw (lt-ltb _ _ (c .if1 .taken))
+
+marked-requires : tie.Need-marked-requires
+marked-requires c κs = search needs
+
+returns-2 : tie.Need-returns-2
+unfolding headFault
+returns-2 c =
+    rw (
+      le-ltb _ _ (c .before .before .if1 .left),
+      ← c .before .marked .ensures,
+      not-true (c .before .marked .result) (c .if2 .taken),
+    )
+
+version-of-requires : tie.Need-version-of-requires
+version-of-requires c κs = search needs
+
+returns-3 : tie.Need-returns-3
+unfolding headFault
+returns-3 c =
+    rw (
+      le-ltb _ _ (c .before .before .before .before .if1 .left),
+      ← c .before .before .before .marked .ensures,
+      not-false (c .before .before .before .marked .result) (c .before .before .if2 .left),
+      ← c .before .version-of .ensures,
+      ne-eqb _ _ (c .if3 .taken),
+    )
+
+count-of-requires : tie.Need-count-of-requires
+count-of-requires c κs = search needs
+
+returns-4 : tie.Need-returns-4
+unfolding headFault
+returns-4 c =
+    rw (
+      le-ltb _ _ (c .before .before .before .before .before .before .if1 .left),
+      ← c .before .before .before .before .before .marked .ensures,
+      not-false (c .before .before .before .before .before .marked .result) (c .before .before .before .before .if2 .left),
+      ← c .before .before .before .version-of .ensures,
+      eq-eqb _ _ (c .before .before .if3 .left),
+      ← c .before .count-of .ensures .0,
+      lt-ltb _ _ (c .if4 .taken),
+    )
+
+cast-if5 : tie.Need-cast-if5
+cast-if5 c = search needs
+
+mul-if5 : tie.Need-mul-if5
+mul-if5 c = search needs
+
+add-if5 : tie.Need-add-if5
+add-if5 c = search needs
+
+returns-5 : tie.Need-returns-5
+unfolding headFault
+returns-5 c =
+    rw (
+      le-ltb _ _ (c .before .before .before .before .before .before .before .if1 .left),
+      ← c .before .before .before .before .before .before .marked .ensures,
+      not-false (c .before .before .before .before .before .before .marked .result) (c .before .before .before .before .before .if2 .left),
+      ← c .before .before .before .before .version-of .ensures,
+      eq-eqb _ _ (c .before .before .before .if3 .left),
+      ← c .before .before .count-of .ensures .0,
+      le-ltb _ _ (c .before .if4 .left),
+      ne-eqb _ _ (c .if5 .taken),
+    )
+
+returns-6 : tie.Need-returns-6
+unfolding headFault
+returns-6 c =
+    rw (
+      le-ltb _ _ (c .before .before .before .before .before .before .before .if1 .left),
+      ← c .before .before .before .before .before .before .marked .ensures,
+      not-false (c .before .before .before .before .before .before .marked .result) (c .before .before .before .before .before .if2 .left),
+      ← c .before .before .before .before .version-of .ensures,
+      eq-eqb _ _ (c .before .before .before .if3 .left),
+      ← c .before .before .count-of .ensures .0,
+      le-ltb _ _ (c .before .if4 .left),
+      eq-eqb _ _ (c .if5 .left),
+    )
+
+pub head-fault-spec : {M : Type 1} → statement M
+head-fault-spec =
+    tie.close
+    (tie.spec
+    returns
+    marked-requires
+    returns-2
+    version-of-requires
+    returns-3
+    count-of-requires
+    returns-4
+    cast-if5
+    mul-if5
+    add-if5
+    returns-5
+    returns-6)

@@ -1,0 +1,79 @@
+-- What is wrong with a job's bytes: why it is answered 10 or 11 (document 01, "Jobs").
+use Prim.Native.Nat.{ℕ, _+_, _*_}
+use mathlib.Core.Bool.{Bool, not, _&&_}
+use mathlib.Core.List.{List, [], _∷_}
+use lib.Dec.{eqb, ltb, leb}
+use lib.ListN.{length}
+use Rattle.row.specs.Choice.{if_then_else_}
+use Rattle.job.specs.Entries.{byteAt, versionOf, countOf, entriesOf}
+use Rattle.job.specs.declared.entries.Entry.{Entry}
+use Rattle.job.specs.declared.faults.Fault.{Fault}
+use Rattle.job.specs.declared.faults.Fault.the-variants.{Sound, Short, Mark, Version, Count, Length, Kind, Value, High, Order}
+
+-- the number of a fault, and 0 where there is none
+abbrev pub faultNumber : Fault → ℕ
+faultNumber Sound = 0
+faultNumber Short = 10
+faultNumber Mark = 10
+faultNumber Version = 10
+faultNumber Count = 10
+faultNumber Length = 10
+faultNumber (Kind i) = 10
+faultNumber (Value i) = 10
+faultNumber (High i) = 11
+faultNumber (Order i) = 11
+
+-- a fault, and where there is none the next
+abbrev pub _otherwise_ : Fault → Fault → Fault
+fault otherwise next = if eqb (faultNumber fault) 0 then next else fault
+
+infixr 60 _otherwise_
+-- three bytes 4F 54 4A
+abbrev pub marked : List ℕ → Bool
+marked job = eqb (byteAt job 0) 0x4f && eqb (byteAt job 1) 0x54 && eqb (byteAt job 2) 0x4a
+
+-- the head: short, mark, version, count, length not 7 + 6 x count
+unfoldable pub headFault : List ℕ → Fault
+headFault job =
+    if ltb (length job) 7 then Short
+    else if not (marked job) then Mark
+    else if not (eqb (versionOf job) 1) then Version
+    else if ltb 512 (countOf job) then Count
+    else if not (eqb (length job) (7 + 6 * countOf job)) then Length
+    else Sound
+
+-- an entry, the i-th: a kind above 1, or an ECC value above 65,535
+abbrev pub formFault : ℕ → Entry → Fault
+formFault i e =
+    if ltb 1 (e .kind) then Kind i
+    else if eqb (e .kind) 0 && ltb 65535 (e .value) then Value i
+    else Sound
+
+-- the first entry with such a fault
+unfoldable pub formFaults : ℕ → List Entry → Fault
+formFaults i [] = Sound
+formFaults i (e ∷ others) = formFault i e otherwise formFaults (i + 1) others
+
+-- its row: from 0xf40 up, or not above the row before it; `least` is the lowest row that may come next
+abbrev pub orderFault : ℕ → ℕ → Entry → Fault
+orderFault i least e =
+    if leb 0xf40 (e .row) then High i
+    else if ltb (e .row) least then Order i
+    else Sound
+
+-- the first entry with such a fault
+unfoldable pub orderFaults : ℕ → ℕ → List Entry → Fault
+orderFaults i least [] = Sound
+orderFaults i least (e ∷ others) = orderFault i least e otherwise orderFaults (i + 1) (e .row + 1) others
+
+-- the first fault of a job: its head, then the form of all entries, then the order of their rows
+unfoldable pub faultOf : List ℕ → Fault
+faultOf job = headFault job otherwise formFaults 0 (entriesOf job) otherwise orderFaults 0 0 (entriesOf job)
+
+-- 10: job bytes malformed
+abbrev pub malformed : List ℕ → Bool
+malformed job = eqb (faultNumber (faultOf job)) 10
+
+-- 11: a job row from 0xf40 up, or not above the row before it
+abbrev pub outOfOrder : List ℕ → Bool
+outOfOrder job = eqb (faultNumber (faultOf job)) 11

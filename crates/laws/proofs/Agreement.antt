@@ -1,0 +1,47 @@
+-- What a verdict sees of a state: what Secure may write. Two states that agree on it judge every job alike.
+-- Assumes nothing.
+use mathlib.Core.Bool.{Bool}
+use mathlib.Core.List.{List, [], _∷_}
+use mathlib.Core.Path.{_≡_, refl, ap}
+use Prim.Native.Nat.{ℕ, _+_}
+use Rattle.chip.specs.Keys.{matches, keyLevel}
+use Rattle.chip.specs.Pages.{owner}
+use Rattle.chip.specs.Permission.{mayWrite}
+use Rattle.chip.specs.declared.state.Key.{Key}
+use Rattle.chip.specs.declared.state.State.{State}
+use Rattle.row.specs.Rungs.{Rung}
+use Rattle.job.specs.Entries.{entriesOf}
+use Rattle.job.specs.Verdicts.{allRungs, verdictOf}
+use Rattle.job.specs.declared.entries.Entry.{Entry}
+
+-- the caller may write the same rows
+abbrev pub AgreeToWrite : ℕ → State → State → Type 0
+AgreeToWrite caller a b = (row : ℕ) → mayWrite a caller row ≡ mayWrite b caller row
+
+-- what permission goes by: levels, key indexes, no-key states, keys and the entered key
+pub record SameLocks (a b : State) : Type 0 where
+  pub secure : a .secure ≡ b .secure
+  pub nonsecure : a .nonsecure ≡ b .nonsecure
+  pub writekey : a .writekey ≡ b .writekey
+  pub readkey : a .readkey ≡ b .readkey
+  pub nokey : a .nokey ≡ b .nokey
+  pub keys : a .keys ≡ b .keys
+  pub entered : a .entered ≡ b .entered
+
+same-level : {a b : State} → SameLocks a b → (page : ℕ) → keyLevel a page ≡ keyLevel b page
+unfolding keyLevel matches
+same-level s page = rw (s .writekey, s .readkey, s .nokey, s .keys, s .entered)
+
+pub locks-agree : {a b : State} → SameLocks a b → (caller : ℕ) → AgreeToWrite caller a b
+unfolding mayWrite
+locks-agree s caller row = rw (same-level s (owner row), s .secure, s .nonsecure)
+
+module _ (rows : List ℕ) (a b : State) (agree : AgreeToWrite 0 a b) where
+  same-rungs : (i : ℕ) (es : List Entry) → allRungs rows a i es ≡ allRungs rows b i es
+  unfolding allRungs
+  same-rungs i [] = refl
+  same-rungs i (e ∷ others) = rw (agree (e .row), same-rungs (i + 1) others)
+
+  pub same-verdict : (job : List ℕ) → verdictOf rows a job ≡ verdictOf rows b job
+  unfolding verdictOf
+  same-verdict job = rw (same-rungs 0 (entriesOf job))
