@@ -53,7 +53,7 @@ fn byte_at(bytes: &[u8], at: usize) -> u32 {
 }
 
 // The number whose four bytes begin at a place, low byte first.
-pub fn four_at(bytes: &[u8], at: usize) -> u32
+fn four_at(bytes: &[u8], at: usize) -> u32
     requires { ⌜ at < 65536 ⌝ }
 {
     byte_at(bytes, at)
