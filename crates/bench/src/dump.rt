@@ -16,7 +16,7 @@ fn row_of(place: usize) -> Number {
     match words::number(place) {
         Number::Is(row) => {
             if Page::LAST_ROW < row {
-                usage::wrong(place, b"no row, which are those from 0 to 4095, 0xfff");
+                usage::wrong(place, b"no such row; the rows are 0 to 4095, 0xfff");
                 return Number::Not;
             }
             Number::Is(row)

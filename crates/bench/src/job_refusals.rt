@@ -87,7 +87,7 @@ fn against(rows: &[u32], state: State, number: u32, entry: Entry) {
 }
 
 // The number, its words, and what it is about: the fault of the bytes, or the entry at the answer's place.
-fn headline(job: &[u8], number: u32, place: u32) {
+pub fn headline(job: &[u8], number: u32, place: u32) {
     match number {
         10 => malformed(job),
         11 => out_of_order(job),
@@ -105,11 +105,4 @@ pub fn lines(rows: &[u32], state: State, job: &[u8], answer: Answer) {
     headline(job, number, place);
     against(rows, state, number, entry_at(job, place));
     print::line(b"no row changes");
-}
-
-// A job that is refused for its bytes, on one line.
-pub fn fault_line(job: &[u8], number: u32) {
-    number_and_words(number);
-    fault(job);
-    print::end();
 }

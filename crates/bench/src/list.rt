@@ -55,7 +55,7 @@ fn last_line(count: u32) {
 fn on_job(job: &[u8]) -> Ended {
     let number = fault_number(fault_of(job));
     if number != 0 {
-        job_refusals::fault_line(job, number);
+        job_refusals::headline(job, number, 0);
         return Ended::Answered(number);
     }
     lines(job);
