@@ -14,6 +14,9 @@ MASKS = (0x00AD5B, 0x00366D, 0x00C78E, 0x0007F0, 0x00F800, 0x1FFFFF)
 KEY_1 = "000102030405060708090a0b0c0d0e0f"
 KEY_2 = "f0e1d2c3b4a5968778695a4b3c2d1e0f"
 
+# A splash card, from row 0x0c0 on: its mark, a number, a version, a width and a height.
+CARD = (0x5053, 0x004C, 1, 320, 240)
+
 
 def plain(value):
     """The plain row of a value: its code. The last check bit covers the first five."""
@@ -90,6 +93,16 @@ def worn():
     return rows
 
 
+def scrap():
+    """A blank board on which the card was burnt, and two rows came out otherwise."""
+    rows = blank()
+    for i, value in enumerate(CARD):
+        rows[0x0C0 + i] = plain(value)
+    rows[0x0C3] &= ~(1 << 8)  # a pulse that did not take
+    rows[0x0C4] |= 1 << 0  # a bit too many
+    return rows
+
+
 def image(name, rows):
     (FOLDER / name).write_bytes(b"".join(row.to_bytes(4, "little") for row in rows))
 
@@ -107,11 +120,12 @@ ECC, RAW = 0, 1
 image("blank.img", blank())
 image("locked.img", locked())
 image("worn.img", worn())
+image("scrap.img", scrap())
 
 # Document 01's whole file for one entry.
 job("one.job", [(0x0C0, ECC, 1)])
-# A splash card: its mark, a number, a version, a width and a height.
-job("card.job", [(0x0C0 + i, ECC, v) for i, v in enumerate((0x5053, 0x004C, 1, 320, 240))])
+# The card, as card.txt has it.
+job("card.job", [(0x0C0 + i, ECC, v) for i, v in enumerate(CARD)])
 # Its last entry is refused with 9 on worn.img.
 job("clash.job", [(0x0C0, ECC, 0x5053), (0x0C1, ECC, 0x004C), (0x0C2, ECC, 1), (0x0C3, ECC, 1)])
 # Its second entry is refused with 7 on locked.img, unless key 1 is entered. Raw entries burn flags.

@@ -26,7 +26,7 @@ fn not_begun(ended: Ended) -> Begun {
 }
 
 // The image after a reset.
-fn after_reset(rows: &[u32]) -> Begun {
+pub fn after_reset(rows: &[u32]) -> Begun {
     let outcome = reset(rows, State::zeros());
     let answer = outcome.answer;
     let number = answer.number;

@@ -47,6 +47,7 @@ pub fn run() -> Ended {
         most: 1,
         key: false,
         save: false,
+        replace: false,
         ways: false,
     };
     if !usage::fit(words, takes) {

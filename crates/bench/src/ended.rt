@@ -1,9 +1,10 @@
 // How the command ended. It is the last line that the program writes, since a program has no exit status of its own.
 use crate::print;
 
-// The number that the library answered with, or what kept the library from being asked.
+// The number that the library answered with, that two images differ, or what kept the library from being asked.
 pub enum Ended {
     Answered(u32),
+    Different,
     Usage,
     File,
 }
@@ -13,6 +14,9 @@ pub fn last_line(ended: Ended) {
     match ended {
         Ended::Answered(number) => {
             print::number(number);
+        }
+        Ended::Different => {
+            print::text(b"different");
         }
         Ended::Usage => {
             print::text(b"usage");

@@ -1,4 +1,4 @@
-// Images and jobs as files. Whatever goes wrong is said in one line.
+// Images, jobs and texts as files. Whatever goes wrong is said in one line.
 ghost use Prim.Native.Nat.{_<_};
 use crate::file_errors::said;
 use crate::file_errors::unread;
@@ -53,7 +53,7 @@ fn byte_at(bytes: &[u8], at: usize) -> u32 {
 }
 
 // The number whose four bytes begin at a place, low byte first.
-pub fn four_at(bytes: &[u8], at: usize) -> u32
+fn four_at(bytes: &[u8], at: usize) -> u32
     requires { ⌜ at < 65536 ⌝ }
 {
     byte_at(bytes, at)
@@ -94,7 +94,7 @@ pub fn load_image(place: usize, rows: &mut [u32; 4096]) -> bool {
     }
 }
 
-// The length of a job, or that there is none.
+// The length of a job or a text, or that there is none.
 pub enum Length {
     Is(usize),
     Not,
@@ -105,6 +105,21 @@ pub fn load_job(place: usize, job: &mut [u8; 3080]) -> Length {
     match load(place, job) {
         Loaded::Bytes(n) => Length::Is(n),
         Loaded::More => Length::Is(3080),
+        Loaded::Nothing => Length::Not,
+    }
+}
+
+// Reads a text.
+pub fn load_text(place: usize, text: &mut [u8; 65536]) -> Length {
+    match load(place, text) {
+        Loaded::Bytes(n) => Length::Is(n),
+        Loaded::More => {
+            said(
+                place,
+                b"a text has at most 65536 bytes, and this file more\n",
+            );
+            Length::Not
+        }
         Loaded::Nothing => Length::Not,
     }
 }

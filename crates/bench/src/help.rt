@@ -2,7 +2,7 @@
 use crate::ended::Ended;
 use crate::print;
 
-fn commands() {
+fn on_an_image() {
     print::line(b"./otp rehearse IMAGE JOB [LIMIT] [--key HEX32] [--save OUT [--replace]]");
     print::line(
         b"    Judges the job, burns it into a copy of the image, and shows what changes, row by row.",
@@ -19,6 +19,30 @@ fn commands() {
     print::line(
         b"    The 64 pages: levels, key indexes, no-key state, bits burnt, who may read and write.",
     );
+    print::line(b"./otp dump IMAGE [FIRST [LAST]] [--key HEX32]");
+    print::line(
+        b"    The rows that hold bits, the row FIRST, or all from FIRST to LAST: bits, what ECC reads,",
+    );
+    print::line(b"    who may read the row, and the datasheet's name of it.");
+}
+
+fn on_other_files() {
+    print::line(b"./otp compare A.img B.img");
+    print::line(
+        b"    The rows where two images differ, and the bits that B lacks or has more. The exit status",
+    );
+    print::line(b"    is 0 where they are the same, 1 where they differ.");
+    print::line(b"./otp list JOB");
+    print::line(
+        b"    The entries of a job as the text that `write` takes, with both rows of an ECC value.",
+    );
+    print::line(b"./otp write TEXT JOB [--replace]");
+    print::line(
+        b"    Makes a job of a text: a line for each entry, as `0x0c0 ecc 320` or `0x0c1 raw 0x000003`,",
+    );
+    print::line(
+        b"    and comments after #. It writes over a job that is there only with --replace.",
+    );
     print::line(b"./otp code VALUE");
     print::line(b"    The code of a value, and the two rows that hold it.");
     print::line(b"./otp help");
@@ -26,14 +50,15 @@ fn commands() {
 }
 
 pub fn run() -> Ended {
-    commands();
+    on_an_image();
+    on_other_files();
     print::line(b"");
     print::line(
         b"IMAGE   16,384 bytes: 4,096 rows, row 0 first, each a 32-bit number, low byte first",
     );
     print::line(b"JOB     the bytes of a job, at most 3,079");
     print::line(b"HEX32   a key: its 16 bytes as 32 hexadecimal digits, byte 0 first");
-    print::line(b"ROW, VALUE and LIMIT are decimal, or hexadecimal after 0x.");
+    print::line(b"ROW, FIRST, LAST, VALUE and LIMIT are decimal, or hexadecimal after 0x.");
     print::line(b"Everything happens after a reset of the image; the key is entered by Secure.");
     print::line(
         b"The exit status is 0 where the answer is 0, 1 where it is a refusal, 2 for a wrong word or file.",

@@ -19,10 +19,37 @@ fn of_entry(job: &[u8], place: u32) {
     of_row(entry.row);
 }
 
-// Why a job is answered 10 or 11, as the library finds it.
-fn fault(job: &[u8]) {
+// The row of the entry before one.
+fn after_entry(job: &[u8], place: u32) {
+    if place == 0 {
+        return;
+    }
+    let before = entry_at(job, place - 1);
+    print::text(b" after row ");
+    print::row(before.row);
+}
+
+// Which of 11's reasons the job gives, as the library finds it. The words of the other are left out.
+fn out_of_order(job: &[u8]) {
+    print::text(b"11: job row ");
     match fault_of(job) {
-        Fault::Sound => {}
+        Fault::Order(place) => {
+            print::text(b"not above the row before it");
+            of_entry(job, place);
+            after_entry(job, place);
+        }
+        Fault::High(place) => {
+            print::text(b"from 0xf40 up");
+            of_entry(job, place);
+        }
+        _ => {}
+    }
+}
+
+// Which of 10's reasons the job gives.
+fn malformed(job: &[u8]) {
+    number_and_words(10);
+    match fault_of(job) {
         Fault::Short => print::text(b": short"),
         Fault::Mark => print::text(b": mark not 4f 54 4a"),
         Fault::Version => print::text(b": version not 1"),
@@ -36,14 +63,7 @@ fn fault(job: &[u8]) {
             print::text(b": ECC value above 65,535");
             of_entry(job, place);
         }
-        Fault::High(place) => {
-            print::text(b": from 0xf40 up");
-            of_entry(job, place);
-        }
-        Fault::Order(place) => {
-            print::text(b": not above it");
-            of_entry(job, place);
-        }
+        _ => {}
     }
 }
 
@@ -66,25 +86,23 @@ fn against(rows: &[u32], state: State, number: u32, entry: Entry) {
     }
 }
 
-// What a number is about: the fault of the bytes, or the entry at the answer's place.
-fn about(job: &[u8], number: u32, place: u32) {
-    if number == 10 {
-        fault(job);
-        return;
+// The number, its words, and what it is about: the fault of the bytes, or the entry at the answer's place.
+pub fn headline(job: &[u8], number: u32, place: u32) {
+    match number {
+        10 => malformed(job),
+        11 => out_of_order(job),
+        _ => {
+            number_and_words(number);
+            of_entry(job, place);
+        }
     }
-    if number == 11 {
-        fault(job);
-        return;
-    }
-    of_entry(job, place);
+    print::end();
 }
 
 pub fn lines(rows: &[u32], state: State, job: &[u8], answer: Answer) {
     let number = answer.number;
     let place = answer.place;
-    number_and_words(number);
-    about(job, number, place);
-    print::end();
+    headline(job, number, place);
     against(rows, state, number, entry_at(job, place));
     print::line(b"no row changes");
 }

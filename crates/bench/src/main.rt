@@ -1,15 +1,23 @@
-// The bench crew's command: rehearse a job on an image of a chip, read a row, show the pages, show the code of a value.
+// The bench crew's command: rehearse a job on an image of a chip, read a row, show the pages, dump or compare images, list or write a
+// job, show the code of a value.
 // The script ./otp at the root runs it, and turns the last line that it writes into an exit status.
 mod begin;
 mod changes;
 mod code;
+mod compare;
+mod differences;
+mod dump;
+mod dump_lines;
+mod ecc;
 mod ended;
 mod entered_key;
 mod file_errors;
 mod files;
 mod help;
+mod job_bytes;
 mod job_refusals;
 mod levels;
+mod list;
 mod numbers;
 mod owner;
 mod page_line;
@@ -20,10 +28,16 @@ mod refusals;
 mod refused_row;
 mod rehearse;
 mod reset_refusals;
+mod row_names;
 mod saving;
 mod shown;
+mod text_entry;
+mod text_errors;
+mod text_job;
+mod text_words;
 mod usage;
 mod words;
+mod write;
 
 use ended::Ended;
 
@@ -39,6 +53,18 @@ fn command() -> Ended {
     }
     if words::is(1, b"code") {
         return code::run();
+    }
+    if words::is(1, b"compare") {
+        return compare::run();
+    }
+    if words::is(1, b"dump") {
+        return dump::run();
+    }
+    if words::is(1, b"list") {
+        return list::run();
+    }
+    if words::is(1, b"write") {
+        return write::run();
     }
     if words::is(1, b"help") || words::is(1, b"--help") || words::is(1, b"-h") {
         return help::run();

@@ -131,6 +131,7 @@ pub fn run() -> Ended {
         most: 1,
         key: true,
         save: false,
+        replace: false,
         ways: false,
     };
     if !usage::fit(words, takes) {

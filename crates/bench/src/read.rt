@@ -209,6 +209,7 @@ pub fn run() -> Ended {
         most: 2,
         key: true,
         save: false,
+        replace: false,
         ways: true,
     };
     if !usage::fit(words, takes) {

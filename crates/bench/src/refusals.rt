@@ -18,8 +18,7 @@ fn words_from_six(number: u32) {
         7 => print::text(b"the permission rules don't allow it"),
         8 => print::text(b"no value has a code within one bit"),
         9 => print::text(b"neither polarity fits"),
-        10 => print::text(b"job bytes malformed"),
-        _ => print::text(b"job row from 0xf40 up, or not above the row before it"),
+        _ => print::text(b"job bytes malformed"),
     }
 }
 

@@ -158,6 +158,7 @@ pub fn run() -> Ended {
         most: 3,
         key: true,
         save: true,
+        replace: true,
         ways: false,
     };
     if !usage::fit(words, takes) {

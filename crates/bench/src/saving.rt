@@ -1,4 +1,4 @@
-// Saving an image: whole under its name, or not at all. It is written under a temporary name beside its own, and renamed at the end.
+// Saving an image or a job: whole under its name, or not at all. It is written under a temporary name beside its own, and renamed at the end.
 use crate::file_errors::unwritten;
 
 // One of the four bytes of a row, the low one first.
@@ -82,7 +82,7 @@ fn with_part(name: &mut [u8; 4096], n: usize) -> usize {
 }
 
 // The same, with the temporary name at the start of an array.
-fn write(path: &[u8], temporary: &[u8; 4096], length: usize, bytes: &[u8; 16384]) -> i32 {
+fn write(path: &[u8], temporary: &[u8; 4096], length: usize, bytes: &[u8]) -> i32 {
     let name: &[u8] = temporary;
     if path.len() == 0 {
         return libc::ENOENT;
@@ -96,10 +96,8 @@ fn write(path: &[u8], temporary: &[u8; 4096], length: usize, bytes: &[u8; 16384]
     write_beside(path, &name[0..length], bytes)
 }
 
-// Saves an image under the name at a place. False where it could not, and one line has said so.
-pub fn save(place: usize, rows: &[u32; 4096]) -> bool {
-    let mut bytes = [0u8; 16384];
-    bytes_of(rows, &mut bytes);
+// Saves bytes under the name at a place. False where it could not, and one line has said so.
+pub fn save_bytes(place: usize, bytes: &[u8]) -> bool {
     let mut path = [0u8; 4096];
     let n = os::arg(place, &mut path);
     let long = os::errno();
@@ -110,10 +108,21 @@ pub fn save(place: usize, rows: &[u32; 4096]) -> bool {
     let mut temporary = [0u8; 4096];
     let m = os::arg(place, &mut temporary);
     let length = with_part(&mut temporary, m);
-    let error = write(&path[..n], &temporary, length, &bytes);
+    let error = write(&path[..n], &temporary, length, bytes);
     if error != 0 {
         unwritten(place, error);
         return false;
     }
     true
+}
+
+// The bytes of an image have their length by its type.
+fn save_image(place: usize, bytes: &[u8; 16384]) -> bool {
+    save_bytes(place, bytes)
+}
+
+pub fn save(place: usize, rows: &[u32; 4096]) -> bool {
+    let mut bytes = [0u8; 16384];
+    bytes_of(rows, &mut bytes);
+    save_image(place, &bytes)
 }

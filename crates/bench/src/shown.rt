@@ -2,21 +2,26 @@
 use crate::print;
 use libc::STDOUT_FILENO;
 
-fn byte(code: u8) {
-    if 32 <= code {
-        if code != 127 {
-            let own = [code];
-            print::text(&own);
-            return;
-        }
+// Whether a byte is a control character, or ends one: after 0xc2 UTF-8 has those from 0x80 to 0x9f.
+fn is_control(before: u8, code: u8) -> bool {
+    code < 32 || code == 127 || (before == 0xc2 && 0x80 <= code && code < 0xa0)
+}
+
+fn byte(before: u8, code: u8) {
+    if is_control(before, code) {
+        print::text(b"\\x");
+        io::print_hex(STDOUT_FILENO, code as u64, 2);
+        return;
     }
-    print::text(b"\\x");
-    io::print_hex(STDOUT_FILENO, code as u64, 2);
+    let own = [code];
+    print::text(&own);
 }
 
 pub fn whole(word: &[u8]) {
+    let mut before = 0;
     for i in 0..word.len() {
-        byte(word[i]);
+        byte(before, word[i]);
+        before = word[i];
     }
 }
 

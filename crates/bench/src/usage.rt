@@ -11,6 +11,7 @@ pub struct Takes {
     pub most: usize,
     pub key: bool,
     pub save: bool,
+    pub replace: bool,
     pub ways: bool,
 }
 
@@ -76,6 +77,8 @@ fn stray(words: Words, takes: Takes) -> usize {
         if words.save != 0 {
             return before(words.save);
         }
+    }
+    if !takes.replace {
         if words.replace != 0 {
             return words.replace;
         }
@@ -108,12 +111,12 @@ fn stray_way(words: Words) -> usize {
 }
 
 // An option that is given twice, or without the one that it goes with.
-fn odd_option(words: Words) -> bool {
+fn odd_option(words: Words, takes: Takes) -> bool {
     if words.twice != 0 {
         wrong(words.twice, b"given twice");
         return true;
     }
-    if words.replace != 0 {
+    if words.replace != 0 && takes.save {
         if words.save == 0 {
             wrong(words.replace, b"it goes with --save");
             return true;
@@ -143,5 +146,5 @@ pub fn fit(words: Words, takes: Takes) -> bool {
         wrong(1, b"a word is missing; ./otp help shows what it takes");
         return false;
     }
-    !odd_option(words)
+    !odd_option(words, takes)
 }

@@ -30,7 +30,7 @@ const SAVE: u32 = 2;
 
 const VOTE: u32 = 3;
 
-fn same(a: &[u8], b: &[u8]) -> bool {
+pub fn same(a: &[u8], b: &[u8]) -> bool {
     if a.len() != b.len() {
         return false;
     }

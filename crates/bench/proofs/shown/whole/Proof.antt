@@ -7,10 +7,10 @@ use Rattle.bench.proofs.shown.whole.Statement.{statement}
 use Rattle.bench.proofs.shown.whole.Tie as tie
 
 abbrev Inv-loop : tie.InvT-loop
-Inv-loop word i₀ i-end i = i-end ≡ length word
+Inv-loop word before₀ i₀ i-end before i = i-end ≡ length word
 
 abbrev μ-loop : tie.MeasureT-loop
-μ-loop word i₀ i-end i = i-end - i
+μ-loop word before₀ i₀ i-end before i = i-end - i
 
 loop-holds : tie.Need-loop-holds Inv-loop μ-loop
 loop-holds c = search needs
@@ -20,6 +20,9 @@ shared-slice-read-byte c = search needs
 
 byte-requires : tie.Need-byte-requires Inv-loop μ-loop
 byte-requires c κs = search needs
+
+shared-slice-read-before : tie.Need-shared-slice-read-before Inv-loop μ-loop
+shared-slice-read-before c = search needs
 
 add-i : tie.Need-add-i Inv-loop μ-loop
 add-i c = search needs
@@ -42,6 +45,7 @@ whole-spec =
     loop-holds
     shared-slice-read-byte
     byte-requires
+    shared-slice-read-before
     add-i
     loop-less
     loop-again
