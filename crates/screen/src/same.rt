@@ -1,39 +1,61 @@
 // Whether an answer or the rows of a chip are what they must be.
+ghost use mathlib.Core.Path.{_≡_};
+ghost use Rattle.row.specs.declared.answer.Condition.the-variants.{Clean, Repaired};
+ghost use Rattle.chip.specs.Lists.{same};
+ghost use Rattle.screen.specs.Same as spec;
 use row::answer::Answer;
 use row::answer::Condition;
 
-fn is_clean(condition: Condition) -> bool {
+fn is_clean(condition: Condition) -> bool
+    ensures { λ r. ⌜ r ≡ spec.sameCondition Clean condition ⌝ }
+{
     match condition {
         Condition::Clean => true,
         Condition::Repaired(_) => false,
     }
 }
 
-fn is_repaired_at(condition: Condition, place: u32) -> bool {
+fn is_repaired_at(condition: Condition, place: u32) -> bool
+    ensures { λ r. ⌜ r ≡ spec.sameCondition (Repaired place) condition ⌝ }
+{
     match condition {
         Condition::Clean => false,
         Condition::Repaired(own) => own == place,
     }
 }
 
-fn same_condition(a: Condition, b: Condition) -> bool {
+fn same_condition(a: Condition, b: Condition) -> bool
+    ensures { λ r. ⌜ r ≡ spec.sameCondition a b ⌝ }
+{
     match a {
         Condition::Clean => is_clean(b),
         Condition::Repaired(place) => is_repaired_at(b, place),
     }
 }
 
-pub fn same_answer(a: Answer, b: Answer) -> bool {
+pub fn same_answer(a: Answer, b: Answer) -> bool
+    ensures { λ r. ⌜ r ≡ spec.sameAnswer a b ⌝ }
+{
     let a_condition = a.condition;
     let b_condition = b.condition;
-    a.number == b.number
-        && a.value == b.value
-        && same_condition(a_condition, b_condition)
-        && a.place == b.place
-        && a.pulses == b.pulses
+    if a.number != b.number {
+        return false;
+    }
+    if a.value != b.value {
+        return false;
+    }
+    if a.place != b.place {
+        return false;
+    }
+    if a.pulses != b.pulses {
+        return false;
+    }
+    same_condition(a_condition, b_condition)
 }
 
-pub fn same_rows(a: &[u32], b: &[u32]) -> bool {
+pub fn same_rows(a: &[u32], b: &[u32]) -> bool
+    ensures { λ r. ⌜ r ≡ same (now (a .entry)) (now (b .entry)) ⌝ }
+{
     if a.len() != b.len() {
         return false;
     }
