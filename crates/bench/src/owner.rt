@@ -10,11 +10,12 @@ use chip::state::State;
 fn page_line(row: u32)
     requires { ⌜ row ≤ 4095 ⌝ }
 {
-    let page = row / 64;
+    let page = row / Page::ROWS;
+    let first = Page { number: page as u8 }.first_row();
     print::left(b"page", 12);
     print::number(page);
     print::text(b", rows ");
-    print::rows(page * 64, page * 64 + 63);
+    print::rows(first, first + 63);
     print::end();
 }
 
@@ -34,26 +35,26 @@ fn key_row(row: u32)
     requires { ⌜ (0xf48 ≤ row) × (row < 0xf7f) ⌝ }
 {
     print::text(b"key ");
-    if row < 0xf78 {
-        let past = row - 0xf48;
+    if row < Page::PAST_KEY_ROWS {
+        let past = row - Page::FIRST_KEY_ROW;
         print::number(past / 8 + 1);
         print::number_after(b", row ", past % 8);
         print::line(b" of its 8");
         return;
     }
-    print::number(row - 0xf78);
+    print::number(row - Page::PAST_KEY_ROWS);
     print::line(b", its valid flag");
 }
 
 fn owner_line(row: u32) {
     print::left(b"owner", 12);
-    if 0xf80 <= row {
+    if Page::FIRST_LOCK_ROW <= row {
         lock_row(row);
         return;
     }
-    if 0xf48 <= row {
+    if Page::FIRST_KEY_ROW <= row {
         if row < 0xf7f {
-            if row != 0xf78 {
+            if row != Page::PAST_KEY_ROWS {
                 key_row(row);
                 return;
             }

@@ -29,7 +29,7 @@ fn burnt(rows: &[u32], page: u32) -> u32
     let mut sum: u32 = 0;
     for more in 0..64 {
         // A row has 24 bits, so neither remainder takes anything away.
-        let bits = pulses(0, row_at(rows, page * 64 + more));
+        let bits = pulses(0, row_at(rows, page * Page::ROWS + more));
         sum = sum % 65536 + bits % 32;
     }
     sum
@@ -42,7 +42,7 @@ fn may(state: State, caller: u32, page: u32) -> u32
     if 62 <= page {
         return 3;
     }
-    allowed(state, caller, page * 64)
+    allowed(state, caller, Page { number: page as u8 }.first_row())
 }
 
 pub fn line_of(rows: &[u32], state: State, number: u32) -> Line
@@ -116,7 +116,8 @@ pub fn write(page: u32, line: Line)
 {
     print::right(page, 5);
     print::text(b"  ");
-    print::rows(page * 64, page * 64 + 63);
+    let first = Page { number: page as u8 }.first_row();
+    print::rows(first, first + 63);
     print::text(b"  ");
     print::number_left(line.secure, 3);
     print::number_left(line.nonsecure, 5);

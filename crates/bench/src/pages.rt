@@ -13,6 +13,7 @@ use crate::usage;
 use crate::usage::Takes;
 use crate::words;
 use chip::keys::matches;
+use chip::pages::Page;
 use chip::state::State;
 
 // The line that was written last, and the pages after it that are the same.
@@ -100,7 +101,7 @@ fn key_line(state: State, at: usize)
         return;
     }
     let k = at as u32 + 1;
-    let first = 0xf40 + 8 * k;
+    let first = Page::FIRST_KEY_ROW + 8 * (at as u32);
     print::number_after(b"Key ", k);
     print::text(b", rows ");
     print::rows(first, first + 7);
