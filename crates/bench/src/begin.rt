@@ -5,9 +5,9 @@ use crate::reset_refusals;
 use crate::usage;
 use crate::words;
 use crate::words::Words;
-use chip::calls::enter_key;
-use chip::resetting::reset;
 use chip::state::State;
+use latch::calls::enter_key;
+use latch::resetting::reset;
 
 // The state of the chip, or how the command ended before there was one.
 pub struct Begun {

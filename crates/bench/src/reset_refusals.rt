@@ -2,7 +2,7 @@
 use crate::print;
 use crate::refusals::of_row;
 use access::rows::row_at;
-use chip::resetting::all_in_range;
+use latch::resetting::all_in_range;
 
 // Whether one row is as the reset asks of all.
 fn in_range(rows: &[u32], row: u32) -> bool {

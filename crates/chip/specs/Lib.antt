@@ -2,8 +2,5 @@ pub mod Lists
 pub mod Slices
 pub mod Pages
 pub mod States
-pub mod Locks
 pub mod Keys
-pub mod Resetting
 pub mod Permission
-pub mod Calls

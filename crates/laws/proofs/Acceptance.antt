@@ -10,8 +10,8 @@ use lib.Dec.{eqb}
 use lib.ListN.{length}
 use Rattle.row.specs.Rungs.{firstOf}
 use Rattle.chip.specs.Permission.{mayWrite}
-use Rattle.chip.specs.Resetting.{allInRange}
 use Rattle.chip.specs.declared.state.State.{State}
+use Rattle.latch.specs.Resetting.{allInRange}
 use Rattle.access.specs.Burning.{burnt}
 use Rattle.access.proofs.Passing.{whole}
 use Rattle.job.specs.Burning.{Progress, allWritten, allPulses}

@@ -4,8 +4,8 @@ use mathlib.Core.List.{List}
 use mathlib.Core.Path.{_≡_, sym, ap, ap₂, _∙_}
 use Prim.Native.Nat.{ℕ, _+_}
 use lib.ListN.{length}
-use Rattle.chip.specs.Resetting.{resetNumber}
 use Rattle.chip.specs.declared.state.State.{State}
+use Rattle.latch.specs.Resetting.{resetNumber}
 use Rattle.access.specs.Burning.{Left}
 use Rattle.job.specs.Burning.{writtenOver, withEntry, allWritten}
 use Rattle.job.specs.Entries.{entriesOf}

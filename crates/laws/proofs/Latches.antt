@@ -8,13 +8,13 @@ use native.Mathlib.Omega.{arith}
 use borrow.Author.Tests.{eq-eqb, not-false}
 use lib.Dec.{eqb}
 use lib.ListN.{length}
-use Rattle.chip.specs.Calls.{enterNumber, enterKey}
 use Rattle.chip.specs.Keys.{keyRow, validRow}
-use Rattle.chip.specs.Resetting.{allDecode, allInRange, latched, resetNumber, reset}
 use Rattle.chip.specs.Slices.{notWhole}
 use Rattle.chip.specs.Slices.{rowAt}
 use Rattle.chip.specs.Pages.{lowLockRow, highLockRow}
 use Rattle.chip.specs.declared.state.State.{State}
+use Rattle.latch.specs.Calls.{enterNumber, enterKey}
+use Rattle.latch.specs.Resetting.{allDecode, allInRange, latched, resetNumber, reset}
 use Rattle.row.proofs.Ladders.{passed}
 use Rattle.access.proofs.Passing.{whole}
 use Rattle.laws.proofs.Agreement.{AgreeToWrite, SameLocks, locks-agree}

@@ -11,14 +11,14 @@ use lib.Dec.{eqb, leb, ltb}
 use lib.ListN.{set}
 use lib.Seq.{getD-set-other}
 use Rattle.row.specs.Choice.{if_then_else_}
-use Rattle.chip.specs.Locks.{levelOf, secureField, nonsecureField}
 use Rattle.chip.specs.Pages.{highLockRow}
-use Rattle.chip.specs.Resetting.{latched, resetNumber, reset}
 use Rattle.chip.specs.Slices.{rowAt}
-use Rattle.chip.specs.Calls.{shownLevel, advanceNumber, withLevel, advanced, advance, enterNumber, enterKey}
 use Rattle.chip.specs.States.{countedLevel, withSecure, withNonsecure}
 use Rattle.chip.specs.declared.state.State.{State}
 use Rattle.chip.specs.declared.state.Outcome.{Outcome}
+use Rattle.latch.specs.Locks.{levelOf, secureField, nonsecureField}
+use Rattle.latch.specs.Resetting.{latched, resetNumber, reset}
+use Rattle.latch.specs.Calls.{shownLevel, advanceNumber, withLevel, advanced, advance, enterNumber, enterKey}
 use Rattle.laws.specs.Calls.{Chip, Call, aReset, aRawRead, anEccRead, aVote, aRawWrite, anEccWrite, anAdvance, aShow, aKey, aJob, aRehearsal, perform, performAll}
 use Rattle.laws.specs.Promises.{NoReset, NoLockFalls, Burns, SoftLocksFallBack, LevelsFallBack, AdvanceLeavesHigher, AdvanceLeavesOthers}
 use Rattle.laws.proofs.Burning.{burningLatchesNothing}

@@ -11,12 +11,12 @@ use Rattle.row.specs.Reading.{readRow}
 use Rattle.row.specs.declared.answer.Answer.{Answer}
 use Rattle.row.proofs.Choices.{own-number}
 use Rattle.row.proofs.Ladders.{refusing}
-use Rattle.chip.specs.Calls.{advance, showLock, enterKey}
 use Rattle.chip.specs.Permission.{mayRead}
-use Rattle.chip.specs.Resetting.{reset}
 use Rattle.chip.specs.Slices.{rowAt}
 use Rattle.chip.specs.declared.state.State.{State}
 use Rattle.chip.specs.declared.state.Outcome.{Outcome}
+use Rattle.latch.specs.Calls.{advance, showLock, enterKey}
+use Rattle.latch.specs.Resetting.{reset}
 use Rattle.access.specs.Burning.{Left}
 use Rattle.access.specs.Judging.{ecc, noValue, rowRungs, callRungs}
 use Rattle.access.specs.Reads.{readEccNumber, readRaw, readEcc}

@@ -8,9 +8,9 @@ use native.Mathlib.Omega.{arith}
 use borrow.Author.Tests.{leb-true, le-leb}
 use lib.Dec.{leb}
 use lib.ListN.{set}
-use Rattle.chip.specs.Resetting.{allInRange}
 use Rattle.chip.specs.Slices.{rowAt}
 use Rattle.chip.specs.declared.state.State.{State}
+use Rattle.latch.specs.Resetting.{allInRange}
 use Rattle.job.specs.Burning.{writtenOver, allWritten}
 use Rattle.job.specs.declared.entries.Entry.{Entry}
 use Rattle.laws.specs.Votes.{EachIn}

@@ -9,10 +9,10 @@ use Rattle.row.specs.Answers.{refused}
 use Rattle.row.specs.Choice.{if_then_else_}
 use Rattle.row.specs.Reading.{readRow}
 use Rattle.row.specs.declared.answer.Condition.the-variants.{Clean}
-use Rattle.chip.specs.Calls.{advanceNumber, showNumber, enterNumber, advance, showLock, enterKey}
-use Rattle.chip.specs.Resetting.{resetNumber, reset}
 use Rattle.chip.specs.Slices.{rowAt}
 use Rattle.chip.specs.declared.state.State.{State}
+use Rattle.latch.specs.Calls.{advanceNumber, showNumber, enterNumber, advance, showLock, enterKey}
+use Rattle.latch.specs.Resetting.{resetNumber, reset}
 use Rattle.access.specs.Reads.{readRawNumber, readEccNumber, readRaw, readEcc}
 use Rattle.access.specs.Votes.{readVoteNumber, readVote}
 use Rattle.access.specs.Writes.{writeRawNumber, writeEccNumber, writeRaw, writeEcc}

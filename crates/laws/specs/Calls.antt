@@ -3,10 +3,10 @@
 use Prim.Native.Nat.{ℕ}
 use mathlib.Core.List.{List, [], _∷_}
 use Rattle.row.specs.declared.answer.Answer.{Answer}
-use Rattle.chip.specs.Calls.{advance, showLock, enterKey}
-use Rattle.chip.specs.Resetting.{reset}
 use Rattle.chip.specs.declared.state.State.{State}
 use Rattle.chip.specs.declared.state.Outcome.{Outcome}
+use Rattle.latch.specs.Calls.{advance, showLock, enterKey}
+use Rattle.latch.specs.Resetting.{reset}
 use Rattle.access.specs.Reads.{readRaw, readEcc}
 use Rattle.access.specs.Votes.{readVote}
 use Rattle.access.specs.Burning.{Left}

@@ -4,10 +4,10 @@ use mathlib.Core.List.{List, [], _∷_}
 use mathlib.Core.Path.{_≡_}
 use lib.ListN.{getD, set}
 use Rattle.row.specs.Writing.{pulses}
-use Rattle.chip.specs.Calls.{enterKey}
-use Rattle.chip.specs.Resetting.{resetNumber, reset}
 use Rattle.chip.specs.Slices.{rowAt}
 use Rattle.chip.specs.declared.state.State.{State}
+use Rattle.latch.specs.Calls.{enterKey}
+use Rattle.latch.specs.Resetting.{resetNumber, reset}
 use Rattle.job.specs.Burning.{writtenOver, withEntry, allWritten}
 use Rattle.job.specs.Entries.{entriesOf}
 use Rattle.job.specs.Jobs.{runJob, rehearse}

@@ -1,8 +1,8 @@
 -- The number of each call. Each of these is a list of rungs in document 01's order ("Given exactly when"), where the call is defined.
 use Prim.Native.Nat.{ℕ}
 use mathlib.Core.Path.{_≡_}
-use Rattle.chip.specs.Calls.{advanceNumber, showNumber, enterNumber}
-use Rattle.chip.specs.Resetting.{resetNumber}
+use Rattle.latch.specs.Calls.{advanceNumber, showNumber, enterNumber}
+use Rattle.latch.specs.Resetting.{resetNumber}
 use Rattle.access.specs.Reads.{readRawNumber, readEccNumber}
 use Rattle.access.specs.Votes.{readVoteNumber}
 use Rattle.access.specs.Writes.{writeRawNumber, writeEccNumber}

@@ -11,13 +11,13 @@ use Rattle.row.specs.Answers.{found}
 use Rattle.row.specs.Code.{setBits, plain, inverted}
 use Rattle.row.specs.Rungs.{firstOf}
 use Rattle.row.specs.declared.answer.Condition.the-variants.{Clean}
-use Rattle.chip.specs.Calls.{shownLevel, advance}
-use Rattle.chip.specs.Locks.{levelOf, secureField, nonsecureField}
 use Rattle.chip.specs.Pages.{highLockRow}
 use Rattle.chip.specs.Permission.{mayRead, mayWrite}
-use Rattle.chip.specs.Resetting.{resetNumber, reset}
 use Rattle.chip.specs.Slices.{rowAt}
 use Rattle.chip.specs.declared.state.State.{State}
+use Rattle.latch.specs.Calls.{shownLevel, advance}
+use Rattle.latch.specs.Locks.{levelOf, secureField, nonsecureField}
+use Rattle.latch.specs.Resetting.{resetNumber, reset}
 use Rattle.access.specs.Reads.{readEccNumber, readEcc}
 use Rattle.access.specs.Judging.{ecc, callRungs}
 use Rattle.access.specs.Writes.{writeRaw, writeEcc}

@@ -14,7 +14,7 @@ pub fn reset(board: Board, rows: &[u32], said: Said) -> Board {
     let state = board.state;
     let hand = board.hand;
     let end = within(board.entries, rows.len());
-    let outcome = chip::resetting::reset(&rows[0..end], state);
+    let outcome = latch::resetting::reset(&rows[0..end], state);
     if said.number == 0 {
         return changed(board, said, outcome, hand, b"latched");
     }
@@ -35,7 +35,7 @@ pub fn advance(board: Board, said: Said) -> Board {
     let state = board.state;
     let domain = said.second;
     let page = said.third;
-    let outcome = chip::calls::advance(state, said.first, domain, page, said.fourth);
+    let outcome = latch::calls::advance(state, said.first, domain, page, said.fourth);
     if said.left == NONE {
         return changed(board, said, outcome, state, b"kept");
     }
@@ -46,13 +46,13 @@ pub fn advance(board: Board, said: Said) -> Board {
 // Given the caller, the domain and the page.
 pub fn show(board: Board, said: Said) -> Board {
     let state = board.state;
-    let is = chip::calls::show(state, said.first, said.second, said.third);
+    let is = latch::calls::show(state, said.first, said.second, said.third);
     answered(board, said, is)
 }
 
 fn entered(state: State, caller: u32, bytes: &[u8], count: u32) -> Outcome {
     let end = within(count, bytes.len());
-    chip::calls::enter_key(state, caller, &bytes[0..end])
+    latch::calls::enter_key(state, caller, &bytes[0..end])
 }
 
 // Given the caller and the count of bytes. Entered, the prepared bytes must be the prepared words.

@@ -1,8 +1,8 @@
 // The eleven calls that libotp.a exports. Each is the call of the crate below, and what C takes of its answer.
 // Each contract cites the definition of that call, so all that is proved of the call holds here too.
 ghost use mathlib.Core.Path.{_≡_};
-ghost use Rattle.chip.specs.Calls as chip;
-ghost use Rattle.chip.specs.Resetting as resetting;
+ghost use Rattle.latch.specs.Calls as latch;
+ghost use Rattle.latch.specs.Resetting as resetting;
 ghost use Rattle.access.specs.Reads as reads;
 ghost use Rattle.access.specs.Votes as votes;
 ghost use Rattle.access.specs.Writes as writes;
@@ -17,13 +17,13 @@ use access::reads::read_raw;
 use access::votes::read_vote;
 use access::writes::write_ecc;
 use access::writes::write_raw;
-use chip::calls::advance;
-use chip::calls::enter_key;
-use chip::calls::show;
-use chip::resetting::reset;
 use chip::state::State;
 use job::jobs::rehearse;
 use job::jobs::run_job;
+use latch::calls::advance;
+use latch::calls::enter_key;
+use latch::calls::show;
+use latch::resetting::reset;
 
 // Latches what the rows hold.
 #[no_mangle]
@@ -106,7 +106,7 @@ pub extern "C" fn otp_advance(
     page: u32,
     level: u32,
 ) -> FlatOutcome
-    ensures { λ r. ⌜ r ≡ flatOutcome (chip.advance state caller domain page level) ⌝ }
+    ensures { λ r. ⌜ r ≡ flatOutcome (latch.advance state caller domain page level) ⌝ }
 {
     flat_outcome(advance(state, caller, domain, page, level))
 }
@@ -114,7 +114,7 @@ pub extern "C" fn otp_advance(
 // Shows a lock.
 #[no_mangle]
 pub extern "C" fn otp_show(state: State, caller: u32, domain: u32, page: u32) -> FlatAnswer
-    ensures { λ r. ⌜ r ≡ flatAnswer (chip.showLock state caller domain page) ⌝ }
+    ensures { λ r. ⌜ r ≡ flatAnswer (latch.showLock state caller domain page) ⌝ }
 {
     flat_answer(show(state, caller, domain, page))
 }
@@ -122,7 +122,7 @@ pub extern "C" fn otp_show(state: State, caller: u32, domain: u32, page: u32) ->
 // Enters a key.
 #[no_mangle]
 pub extern "C" fn otp_enter_key(state: State, caller: u32, key: &[u8]) -> FlatOutcome
-    ensures { λ r. ⌜ r ≡ flatOutcome (chip.enterKey state caller (now (key .entry))) ⌝ }
+    ensures { λ r. ⌜ r ≡ flatOutcome (latch.enterKey state caller (now (key .entry))) ⌝ }
 {
     flat_outcome(enter_key(state, caller, key))
 }

@@ -1,7 +1,7 @@
 // Jobs on a board: the board, and a line of the table for each run (document 01, "Jobs").
 use crate::print;
-use chip::resetting::reset;
 use chip::state::State;
+use latch::resetting::reset;
 use row::answer::Answer;
 use screen::tally;
 use screen::tally::Tally;

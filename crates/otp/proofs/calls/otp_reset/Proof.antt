@@ -1,4 +1,4 @@
--- `otp::calls::otp_reset` meets its contract: by those of `chip::resetting::reset` and `flat_outcome`.
+-- `otp::calls::otp_reset` meets its contract: by those of `latch::resetting::reset` and `flat_outcome`.
 -- Assumes nothing.
 use borrow.Author.Needs.{needs}
 use mathlib.Core.Path.{ap, _∙_}

@@ -1,0 +1,4 @@
+pub mod Decoding
+pub mod Ladders
+pub mod Majority
+pub mod Ranges

@@ -1,0 +1,59 @@
+-- `latch::calls::advanced` meets its contract: each answer by the tests that led to it.
+-- Assumes nothing.
+use borrow.Author.Needs.{needs}
+use borrow.Author.Tests.{le-leb, lt-leb, eq-eqb, ne-eqb}
+use mathlib.Core.Path.{_≡_, sym, ap, _∙_}
+use mathlib.Core.Bool.{false}
+use lib.Dec.{leb}
+use Rattle.latch.specs.Calls.{shownLevel}
+use Rattle.latch.proofs.calls.advanced.Statement.{statement}
+use Rattle.latch.proofs.calls.advanced.Tie as tie
+
+cast-t8 : tie.Need-cast-t8
+cast-t8 c = search needs
+
+shown-level-requires : tie.Need-shown-level-requires
+shown-level-requires c κs = search needs
+
+cast-next : tie.Need-cast-next
+cast-next c = search needs
+
+element-write-next : tie.Need-element-write-next
+element-write-next c = search needs
+
+returns : tie.Need-returns
+returns c =
+    let a = c .before .before .before .args in
+    let above : leb (a .level) (shownLevel (a .state) (a .domain) (a .page)) ≡ false =
+    ap (leb (a .level)) (sym (c .before .before .shown-level .ensures)) ∙ lt-leb _ _ (c .before .if1 .taken) in
+    rw (above, eq-eqb _ _ (c .if2 .taken))
+
+cast-next-2 : tie.Need-cast-next-2
+cast-next-2 c = search needs
+
+element-write-next-2 : tie.Need-element-write-next-2
+element-write-next-2 c = search needs
+
+returns-2 : tie.Need-returns-2
+returns-2 c =
+    let a = c .before .before .before .args in
+    let above : leb (a .level) (shownLevel (a .state) (a .domain) (a .page)) ≡ false =
+    ap (leb (a .level)) (sym (c .before .before .shown-level .ensures)) ∙ lt-leb _ _ (c .before .if1 .taken) in
+    rw (above, ne-eqb _ _ (c .if2 .left))
+
+returns-3 : tie.Need-returns-3
+returns-3 c = simp (← c .before .shown-level .ensures, le-leb _ _ (c .if1 .left))
+
+pub advanced-spec : {M : Type 1} → statement M
+advanced-spec =
+    tie.close
+    (tie.spec
+    cast-t8
+    shown-level-requires
+    cast-next
+    element-write-next
+    cast-next-2
+    element-write-next-2
+    returns
+    returns-2
+    returns-3)

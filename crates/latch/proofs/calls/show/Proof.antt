@@ -1,0 +1,53 @@
+-- `latch::calls::show` meets its contract: a number that is not 0 is a refusal, and 0 shows the level.
+-- Assumes nothing.
+use borrow.Author.Needs.{needs}
+use mathlib.Core.Path.{sym, ap, _∙_}
+use Prim.Native.Nat.{_≤_}
+use native.Mathlib.Omega.{arith}
+use borrow.Author.Tests.{eq-eqb, ne-eqb}
+use Rattle.row.specs.Answers.{told}
+use Rattle.latch.specs.Calls.{showLock}
+use Rattle.latch.proofs.Ladders.{show-passed}
+use Rattle.latch.proofs.calls.show.Statement.{statement}
+use Rattle.latch.proofs.calls.show.Tie as tie
+
+show-number-requires : tie.Need-show-number-requires
+show-number-requires c κs = search needs
+
+refused-requires : tie.Need-refused-requires
+refused-requires c κs = search needs
+
+returns : tie.Need-returns
+unfolding showLock
+returns c = rw (← c .before .before .show-number .ensures, ne-eqb _ _ (c .before .if1 .taken)) (c .refused .ensures)
+
+cast-t8 : tie.Need-cast-t8
+cast-t8 c =
+    let a = c .before .before .args in
+    let low : a .page ≤ 63 =
+    show-passed (a .caller) (a .domain) (a .page) (sym (c .before .show-number .ensures) ∙ c .if1 .left) in
+    omega arith
+
+shown-level-requires : tie.Need-shown-level-requires
+shown-level-requires c κs = search needs
+
+told-requires : tie.Need-told-requires
+told-requires c κs = search needs
+
+returns-2 : tie.Need-returns-2
+unfolding showLock
+returns-2 c =
+    rw (← c .before .before .before .show-number .ensures, eq-eqb _ _ (c .before .before .if1 .left))
+    (c .told .ensures ∙ ap told (c .before .shown-level .ensures))
+
+pub show-spec : {M : Type 1} → statement M
+show-spec =
+    tie.close
+    (tie.spec
+    show-number-requires
+    refused-requires
+    returns
+    cast-t8
+    shown-level-requires
+    told-requires
+    returns-2)

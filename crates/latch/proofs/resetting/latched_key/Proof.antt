@@ -1,0 +1,145 @@
+-- `latch::resetting::latched_key` meets its contract. The invariant: the words so far are those of the rows, and `whole` says whether all decoded.
+-- Assumes nothing.
+use borrow.Author.Needs.{needs}
+use denote.Ref.{now}
+use mathlib.Core.Path.{_≡_, refl, sym, ap, _∙_, subst}
+use mathlib.Core.Logic.{⊎-elim}
+use Prim.Native.Nat.{ℕ, _+_, _-_, _%_, _≤_}
+use native.Mathlib.Omega.{arith}
+use lib.ListN.{length, take, set, length-set}
+use native.Mathlib.Nat.{mod-eq-of-lt}
+use Rattle.chip.specs.Keys.{keyRow}
+use Rattle.row.specs.declared.answer.Answer.{Answer}
+use Rattle.row.proofs.Syndromes.{read-lt}
+use Rattle.chip.specs.Lists.{listed}
+use Rattle.chip.specs.Slices.{rowAt}
+use Rattle.chip.proofs.Lists.{listed-more, listed-all}
+use Rattle.latch.specs.Resetting.{wordOf, allDecode}
+use Rattle.latch.proofs.Decoding.{decodes, decodes-not}
+use Rattle.latch.proofs.resetting.latched_key.Statement.{statement}
+use Rattle.latch.proofs.resetting.latched_key.Tie as tie
+
+abbrev Inv-loop : tie.InvT-loop
+Inv-loop rows k first flag words₀ whole₀ i₀ words whole i =
+    (i ≤ 8) × (length words ≡ 8) × (take i words ≡ listed i (λ n. wordOf (rowAt rows (first + n)))) × (whole ≡ allDecode rows first i)
+
+abbrev μ-loop : tie.MeasureT-loop
+μ-loop rows k first flag words₀ whole₀ i₀ words whole i = 8 - i
+
+sub-first : tie.Need-sub-first Inv-loop μ-loop
+sub-first c = omega arith
+
+mul-first : tie.Need-mul-first Inv-loop μ-loop
+mul-first c = omega arith
+
+add-first : tie.Need-add-first Inv-loop μ-loop
+add-first c = omega arith
+
+cast-first : tie.Need-cast-first Inv-loop μ-loop
+cast-first c = omega arith
+
+add-flag : tie.Need-add-flag Inv-loop μ-loop
+add-flag c = omega arith
+
+cast-flag : tie.Need-cast-flag Inv-loop μ-loop
+cast-flag c = omega arith
+
+mul-flag : tie.Need-mul-flag Inv-loop μ-loop
+mul-flag c = omega arith
+
+shared-slice-read-flag : tie.Need-shared-slice-read-flag Inv-loop μ-loop
+shared-slice-read-flag c = omega arith
+
+loop-holds : tie.Need-loop-holds Inv-loop μ-loop
+unfolding listed allDecode
+loop-holds c = (search needs, search needs, refl, refl)
+
+add-read-row : tie.Need-add-read-row Inv-loop μ-loop
+add-read-row c = omega arith
+
+mul-read-row : tie.Need-mul-read-row Inv-loop μ-loop
+mul-read-row c = omega arith
+
+shared-slice-read-read-row : tie.Need-shared-slice-read-read-row Inv-loop μ-loop
+shared-slice-read-read-row c = omega arith
+
+read-row-requires : tie.Need-read-row-requires Inv-loop μ-loop
+read-row-requires c κs = search needs
+
+cast-words : tie.Need-cast-words Inv-loop μ-loop
+cast-words c = omega arith
+
+mul-words : tie.Need-mul-words Inv-loop μ-loop
+mul-words c = omega arith
+
+array-write-words : tie.Need-array-write-words Inv-loop μ-loop
+array-write-words c = omega arith
+
+add-i : tie.Need-add-i Inv-loop μ-loop
+add-i c = omega arith
+
+loop-less : tie.Need-loop-less Inv-loop μ-loop
+loop-less c = omega arith
+
+loop-again : tie.Need-loop-again Inv-loop μ-loop
+loop-again c =
+    let s = c .before .before .before .before .before .before .before .before .before in
+    let rows = now (s .args .rows) in
+    let first : ℕ = keyRow (s .args .k) in
+    let l = c .before .before .before .before .before .before .loop in
+    let answer = c .before .before .before .read-row .ensures in
+    let word : c .before .before .before .read-row .result .value % 65536 ≡ wordOf (rowAt rows (first + l .i)) =
+    ap (λ (a : Answer). a .value % 65536) answer ∙ mod-eq-of-lt (read-lt (rowAt rows (first + l .i))) in (
+      omega arith,
+      simp length-set (l .inv .1),
+      ap (λ (n : ℕ). take (l .i + 1) (set (l .words) (l .i) n)) word
+          ∙ listed-more (λ n. wordOf (rowAt rows (first + n))) (l .words) (l .i) (omega arith) (l .inv .2),
+      ⊎-elim
+          (λ w. w .1 ∙ sym (decodes-not rows first (l .i) (λ e. w .0 .taken (ap (λ (a : Answer). a .number) answer ∙ e))))
+          (λ w. w .1 ∙ l .inv .3 ∙ sym (decodes rows first (l .i) (sym (ap (λ (a : Answer). a .number) answer) ∙ w .0 .left)))
+          (c .if1 .came),
+    )
+
+voted-byte-requires : tie.Need-voted-byte-requires Inv-loop μ-loop
+voted-byte-requires c κs = search needs
+
+returns : tie.Need-returns Inv-loop μ-loop
+returns c =
+    let s = c .before .before .before .before .before in
+    let rows = now (s .args .rows) in
+    let first : ℕ = keyRow (s .args .k) in
+    let l = c .before .before .loop in
+    let all : l .i ≡ 8 = omega arith in
+    let words : l .words ≡ listed 8 (λ n. wordOf (rowAt rows (first + n))) =
+    listed-all (λ n. wordOf (rowAt rows (first + n))) 8 (l .words) (l .inv .1)
+    (subst (λ (m : ℕ). take m (l .words) ≡ listed m (λ n. wordOf (rowAt rows (first + n)))) all (l .inv .2)) in
+    let whole : l .whole ≡ allDecode rows first 8 = l .inv .3 ∙ ap (allDecode rows first) all in
+    simp (words, whole, c .voted-byte .ensures)
+
+pub latched-key-spec : {M : Type 1} → statement M
+latched-key-spec =
+    tie.close
+    (tie.spec
+    Inv-loop
+    μ-loop
+    sub-first
+    mul-first
+    add-first
+    cast-first
+    add-flag
+    cast-flag
+    mul-flag
+    shared-slice-read-flag
+    loop-holds
+    add-read-row
+    mul-read-row
+    shared-slice-read-read-row
+    read-row-requires
+    cast-words
+    mul-words
+    array-write-words
+    add-i
+    loop-less
+    loop-again
+    voted-byte-requires
+    returns)
