@@ -1,9 +1,9 @@
 // What a rehearsal did: a line for each entry, with the old and the new bits of its row.
 use crate::print;
 use access::rows::row_at;
-use job::entries::Entry;
-use job::entries::count_of;
-use job::entries::entry_at;
+use form::entries::Entry;
+use form::entries::count_of;
+use form::entries::entry_at;
 use job::verdicts::entry_written;
 use row::writing::pulses;
 

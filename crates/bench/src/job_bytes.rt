@@ -1,6 +1,6 @@
 // The bytes of a job (document 01, "Jobs"). There is room for one entry more than a job has, so that the library can say that it is too many.
 ghost use Prim.Native.Nat.{_≤_};
-use job::entries::Entry;
+use form::entries::Entry;
 
 // 7 bytes, and 6 for each of 513 entries.
 pub type Bytes = [u8; 3085];

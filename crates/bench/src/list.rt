@@ -8,11 +8,11 @@ use crate::text_words::part;
 use crate::usage;
 use crate::usage::Takes;
 use crate::words;
-use job::entries::Entry;
-use job::entries::count_of;
-use job::entries::entry_at;
-use job::faults::fault_number;
-use job::faults::fault_of;
+use form::entries::Entry;
+use form::entries::count_of;
+use form::entries::entry_at;
+use form::faults::fault_number;
+use form::faults::fault_of;
 use row::coding::inverted;
 use row::coding::plain;
 

@@ -15,7 +15,7 @@ use crate::usage::Takes;
 use crate::words;
 use crate::words::Words;
 use chip::state::State;
-use job::entries::count_of;
+use form::entries::count_of;
 use job::jobs::rehearse;
 use row::answer::Answer;
 

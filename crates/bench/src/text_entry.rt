@@ -4,7 +4,7 @@ use crate::numbers::Number;
 use crate::text_words::part;
 use crate::text_words::word;
 use crate::words::same;
-use job::entries::Entry;
+use form::entries::Entry;
 
 // What is wrong with a word of a text. The last four are what the library finds wrong with the job that the text gives.
 pub enum Why {

@@ -13,10 +13,10 @@ use crate::usage;
 use crate::usage::Takes;
 use crate::words;
 use crate::words::Words;
-use job::faults::Fault;
-use job::faults::MOST_ENTRIES;
-use job::faults::fault_number;
-use job::faults::fault_of;
+use form::faults::Fault;
+use form::faults::MOST_ENTRIES;
+use form::faults::fault_number;
+use form::faults::fault_of;
 use screen::tally::sum;
 
 // What the library finds wrong, at which entry, and with which of its words.

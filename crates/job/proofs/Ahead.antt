@@ -8,9 +8,9 @@ use borrow.Author.Tests.{le-leb, lt-leb}
 use lib.ListN.{set}
 use Rattle.row.specs.Upward.{burntUpward}
 use Rattle.chip.specs.Slices.{rowAt}
+use Rattle.form.specs.Entries.{entryAt, entriesFrom}
 use Rattle.job.specs.Burning.{Progress, writtenOver, withEntry, after, rehearsed}
-use Rattle.job.specs.Entries.{entryAt, entriesFrom}
-use Rattle.job.proofs.Upward.{next-left, none-left}
+use Rattle.form.proofs.Upward.{next-left, none-left}
 
 -- so many pulses spent and so many entries standing, ahead of the rest
 abbrev pub ahead : ℕ → ℕ → Progress → Progress

@@ -10,8 +10,8 @@ use Rattle.row.specs.Reading.{dataOf}
 use Rattle.row.specs.Rungs.{_when_, firstOf}
 use Rattle.row.specs.Writing.{eccWritten, rawWritten, neitherFits}
 use Rattle.row.proofs.Ladders.{nine}
+use Rattle.form.specs.declared.entries.Entry.{Entry}
 use Rattle.job.specs.Verdicts.{entryWritten, unfit}
-use Rattle.job.specs.declared.entries.Entry.{Entry}
 
 pub entry-nine : (old : ℕ) (e : Entry) → entryWritten old e .number ≡ firstOf (9 when unfit old e ∷ [])
 unfolding entryWritten

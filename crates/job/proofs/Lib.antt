@@ -1,5 +1,4 @@
 pub mod Ahead
-pub mod Faulty
 pub mod Fitting
 pub mod Upward
 pub mod Whole

@@ -1,38 +1,52 @@
--- Entries taken in order, one after the other: what is left answers for the whole.
+-- Judging in order: a fault, or an entry that is refused, answers for the whole, and any other hands on to what is left.
 -- Assumes nothing.
-use mathlib.Core.Path.{_≡_, refl, sym, ap}
+use mathlib.Core.Path.{_≡_, refl}
 use mathlib.Core.Bool.{Bool, true, false, not}
 use mathlib.Core.List.{List, [], _∷_, _++_}
-use Prim.Native.Nat.{ℕ, suc, _+_, _-_, _<_}
-use native.Mathlib.Nat.{sub-zero}
-use native.Mathlib.Numerals.{add-one}
+use Prim.Native.Nat.{ℕ, _+_, _-_, _<_}
 use native.Mathlib.Omega.{arith}
+use lib.Dec.{eqb}
 use Rattle.row.specs.Rungs.{Rung, _when_, _ofEntry_, firstOf}
 use Rattle.chip.specs.Permission.{mayWrite}
 use Rattle.chip.specs.Slices.{rowAt, tooLarge}
 use Rattle.chip.specs.declared.state.State.{State}
-use Rattle.job.specs.Entries.{entryAt, entriesFrom}
-use Rattle.job.specs.declared.entries.Entry.{Entry}
+use Rattle.form.specs.Entries.{entryAt, entriesFrom}
+use Rattle.form.specs.Faults.{faultNumber}
+use Rattle.form.specs.declared.entries.Entry.{Entry}
+use Rattle.form.specs.declared.faults.Fault.{Fault}
+use Rattle.form.specs.declared.faults.Fault.the-variants.{Sound, Short, Mark, Version, Count, Length, Kind, Value, High, Order}
 use Rattle.job.specs.Verdicts.{unfit, entryRungs, allRungs, verdict}
+use Rattle.form.proofs.Upward.{next-left}
 
-module _ (job : List ℕ) (count : ℕ) where
-  -- before the first entry all are left
-  pub all-left : entriesFrom job 0 count ≡ entriesFrom job 0 (count - 0)
-  all-left = ap (entriesFrom job 0) (sym (sub-zero count))
+-- ---- the two rungs of a fault, and then the rest
 
-  -- the next entry, and those after it
-  pub next-left : (i : ℕ) → i < count → entriesFrom job i (count - i) ≡ entryAt job i ∷ entriesFrom job (i + 1) (count - (i + 1))
-  unfolding entriesFrom
-  next-left i h =
-      let more : count - i ≡ suc (count - (i + 1)) = omega arith in
-      rw (more, add-one)
+module _ (rest : List Rung) where
+  abbrev by-fault : Fault → List Rung
+  by-fault fault = 10 when eqb (faultNumber fault) 10 ∷ 11 when eqb (faultNumber fault) 11 ∷ rest
 
-  -- after the last none is left
-  pub none-left : (i : ℕ) → i ≡ count → entriesFrom job i (count - i) ≡ []
-  unfolding entriesFrom
-  none-left i e =
-      let none : count - i ≡ 0 = omega arith in
-      rw none
+  pub rungs-stop : (fault : Fault) → (faultNumber fault ≡ 0 → ⊥) → verdict (by-fault fault) ≡ record { number = faultNumber fault; place = 0 }
+  rungs-stop Sound some = absurd (some refl)
+  rungs-stop Short some = refl
+  rungs-stop Mark some = refl
+  rungs-stop Version some = refl
+  rungs-stop Count some = refl
+  rungs-stop Length some = refl
+  rungs-stop (Kind i) some = refl
+  rungs-stop (Value i) some = refl
+  rungs-stop (High i) some = refl
+  rungs-stop (Order i) some = refl
+
+  pub rungs-next : (fault : Fault) → faultNumber fault ≡ 0 → verdict (by-fault fault) ≡ verdict rest
+  rungs-next Sound none = refl
+  rungs-next Short none = absurd (omega arith)
+  rungs-next Mark none = absurd (omega arith)
+  rungs-next Version none = absurd (omega arith)
+  rungs-next Count none = absurd (omega arith)
+  rungs-next Length none = absurd (omega arith)
+  rungs-next (Kind i) none = absurd (omega arith)
+  rungs-next (Value i) none = absurd (omega arith)
+  rungs-next (High i) none = absurd (omega arith)
+  rungs-next (Order i) none = absurd (omega arith)
 
 -- ---- the three rungs of an entry, and then the rest
 

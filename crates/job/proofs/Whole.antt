@@ -19,14 +19,14 @@ use Rattle.row.specs.Rungs.{firstOf}
 use Rattle.row.proofs.Ladders.{passed}
 use Rattle.chip.specs.Slices.{notWhole}
 use Rattle.chip.specs.declared.state.State.{State}
+use Rattle.form.specs.Entries.{countOf, entriesFrom, entriesOf}
+use Rattle.form.specs.Faults.{headFault, faultOf, malformed, outOfOrder}
+use Rattle.form.specs.declared.entries.Entry.{Entry}
+use Rattle.form.specs.declared.faults.Fault.the-variants.{Sound}
 use Rattle.job.specs.Burning.{Progress, writtenOver, withEntry, allWritten, allPulses, rehearsed}
-use Rattle.job.specs.Entries.{countOf, entriesFrom, entriesOf}
-use Rattle.job.specs.Faults.{headFault, faultOf, malformed, outOfOrder}
 use Rattle.job.specs.Jobs.{carriedOut, runJob, rehearse}
 use Rattle.job.specs.Verdicts.{entryWritten, allRungs, verdictOf}
-use Rattle.job.specs.declared.entries.Entry.{Entry}
-use Rattle.job.specs.declared.faults.Fault.the-variants.{Sound}
-use Rattle.job.proofs.Faulty.{no-fault, both-sound, head-count}
+use Rattle.form.proofs.Faulty.{no-fault, both-sound, head-count}
 
 -- ---- a row takes at most 24 pulses
 

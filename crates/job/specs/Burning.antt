@@ -7,8 +7,8 @@ use Rattle.row.specs.Choice.{if_then_else_}
 use Rattle.row.specs.Upward.{burntUpward}
 use Rattle.row.specs.declared.writing.Written.{Written}
 use Rattle.chip.specs.Slices.{rowAt}
+use Rattle.form.specs.declared.entries.Entry.{Entry}
 use Rattle.job.specs.Verdicts.{entryWritten}
-use Rattle.job.specs.declared.entries.Entry.{Entry}
 
 -- what writing an entry over its row gives
 abbrev pub writtenOver : List ℕ → Entry → Written

@@ -5,8 +5,8 @@ use lib.Dec.{eqb}
 use Rattle.row.specs.Choice.{if_then_else_}
 use Rattle.chip.specs.declared.state.State.{State}
 use Rattle.access.specs.Burning.{Left, burnt, kept}
+use Rattle.form.specs.Entries.{countOf, entriesOf}
 use Rattle.job.specs.Burning.{Progress, allWritten, allPulses, rehearsed}
-use Rattle.job.specs.Entries.{countOf, entriesOf}
 use Rattle.job.specs.Verdicts.{verdictOf}
 use Rattle.job.specs.declared.verdicts.Verdict.{Verdict}
 

@@ -1,5 +1,3 @@
-pub mod Entries
-pub mod Faults
 pub mod Verdicts
 pub mod Burning
 pub mod Jobs

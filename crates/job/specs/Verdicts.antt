@@ -11,9 +11,9 @@ use Rattle.row.specs.declared.writing.Written.{Written}
 use Rattle.chip.specs.Permission.{mayWrite}
 use Rattle.chip.specs.Slices.{rowAt, notWhole, tooLarge}
 use Rattle.chip.specs.declared.state.State.{State}
-use Rattle.job.specs.Entries.{entriesOf}
-use Rattle.job.specs.Faults.{malformed, outOfOrder}
-use Rattle.job.specs.declared.entries.Entry.{Entry}
+use Rattle.form.specs.Entries.{entriesOf}
+use Rattle.form.specs.Faults.{malformed, outOfOrder}
+use Rattle.form.specs.declared.entries.Entry.{Entry}
 use Rattle.job.specs.declared.verdicts.Verdict.{Verdict}
 
 -- what writing an entry over a row gives; an ECC entry writes the 16 bits of its value

@@ -1,11 +1,11 @@
 // Burning entries in order, up to a limit of pulses (document 01, "Jobs").
 ghost use mathlib.Core.Path.{_≡_};
+ghost use Rattle.form.specs.Entries.{entriesFrom};
 ghost use Rattle.job.specs.Burning as spec;
-ghost use Rattle.job.specs.Entries.{entriesFrom};
-use crate::entries::entry_at;
 use crate::verdicts::entry_written;
 use access::rows::put;
 use access::rows::row_at;
+use form::entries::entry_at;
 use row::upward::burnt_upward;
 
 // How far a rehearsal came: the pulses spent, and the leading entries whose bits all stand.

@@ -2,11 +2,11 @@
 ghost use mathlib.Core.Path.{_≡_};
 ghost use Rattle.job.specs.Jobs as spec;
 use crate::burning::rehearsed;
-use crate::entries::count_of;
-use crate::faults::MOST_ENTRIES;
 use crate::verdicts::verdict_of;
 use chip::state::Outcome;
 use chip::state::State;
+use form::entries::count_of;
+use form::faults::MOST_ENTRIES;
 use row::answer::refused_at;
 use row::answer::spent;
 

@@ -14,15 +14,15 @@ use Rattle.chip.specs.declared.state.State.{State}
 use Rattle.latch.specs.Resetting.{allInRange}
 use Rattle.access.specs.Burning.{burnt}
 use Rattle.access.proofs.Passing.{whole}
+use Rattle.form.specs.Entries.{countOf, entryAt, entriesFrom, entriesOf}
+use Rattle.form.specs.Faults.{faultNumber, orderFault, orderFaults, faultOf}
+use Rattle.form.specs.declared.entries.Entry.{Entry}
+use Rattle.form.specs.declared.faults.Fault.the-variants.{Sound}
 use Rattle.job.specs.Burning.{Progress, allWritten, allPulses}
-use Rattle.job.specs.Entries.{countOf, entryAt, entriesFrom, entriesOf}
-use Rattle.job.specs.Faults.{faultNumber, orderFault, orderFaults, faultOf}
 use Rattle.job.specs.Jobs.{carriedOut, runJob}
 use Rattle.job.specs.Verdicts.{entryRungs, allRungs, verdictOf}
-use Rattle.job.specs.declared.entries.Entry.{Entry}
 use Rattle.job.specs.declared.verdicts.Verdict.{Verdict}
-use Rattle.job.specs.declared.faults.Fault.the-variants.{Sound}
-use Rattle.job.proofs.Faulty.{both-sound, order-kept, order-sound}
+use Rattle.form.proofs.Faulty.{both-sound, order-kept, order-sound}
 use Rattle.job.proofs.Upward.{entry-next, entry-none}
 use Rattle.job.proofs.Whole.{accepted}
 use Rattle.laws.specs.Cuts.{Keyed, ready, Bytes, acceptedOn}

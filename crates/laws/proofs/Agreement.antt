@@ -7,9 +7,9 @@ use Rattle.chip.specs.Keys.{matches, keyLevel}
 use Rattle.chip.specs.Pages.{owner}
 use Rattle.chip.specs.Permission.{mayWrite}
 use Rattle.chip.specs.declared.state.State.{State}
-use Rattle.job.specs.Entries.{entriesOf}
+use Rattle.form.specs.Entries.{entriesOf}
+use Rattle.form.specs.declared.entries.Entry.{Entry}
 use Rattle.job.specs.Verdicts.{allRungs, verdictOf}
-use Rattle.job.specs.declared.entries.Entry.{Entry}
 
 -- the caller may write the same rows
 abbrev pub AgreeToWrite : ℕ → State → State → Type 0

@@ -8,11 +8,11 @@ use Rattle.chip.specs.Slices.{rowAt}
 use Rattle.chip.specs.declared.state.State.{State}
 use Rattle.access.specs.Burning.{Left}
 use Rattle.access.specs.Writes.{writeRawNumber, writeEccNumber, writeRaw, writeEcc}
+use Rattle.form.specs.Entries.{entriesOf}
+use Rattle.form.specs.declared.entries.Entry.{Entry}
 use Rattle.job.specs.Burning.{Progress, writtenOver, withEntry, rehearsed}
-use Rattle.job.specs.Entries.{entriesOf}
 use Rattle.job.specs.Jobs.{runJob, rehearse}
 use Rattle.job.specs.Verdicts.{verdictOf}
-use Rattle.job.specs.declared.entries.Entry.{Entry}
 use Rattle.job.proofs.Whole.{whole-job}
 use Rattle.laws.specs.Calls.{Chip, Call, aReset, aRawRead, anEccRead, aVote, aRawWrite, anEccWrite, anAdvance, aShow, aKey, aJob, aRehearsal, perform, performAll}
 use Rattle.laws.specs.Promises.{NoBitClears, Burns, BurningLatchesNothing}

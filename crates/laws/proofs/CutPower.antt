@@ -7,11 +7,11 @@ use lib.ListN.{length}
 use Rattle.chip.specs.declared.state.State.{State}
 use Rattle.latch.specs.Resetting.{resetNumber}
 use Rattle.access.specs.Burning.{Left}
+use Rattle.form.specs.Entries.{entriesOf}
+use Rattle.form.specs.declared.entries.Entry.{Entry}
 use Rattle.job.specs.Burning.{writtenOver, withEntry, allWritten}
-use Rattle.job.specs.Entries.{entriesOf}
 use Rattle.job.specs.Jobs.{runJob}
 use Rattle.job.specs.Verdicts.{verdictOf}
-use Rattle.job.specs.declared.entries.Entry.{Entry}
 use Rattle.job.specs.declared.verdicts.Verdict.{Verdict}
 use Rattle.laws.specs.Votes.{EachIn}
 use Rattle.laws.specs.Cuts.{ready, CutOf, newlySet, Cuts, CutPower}

@@ -14,8 +14,8 @@ use Rattle.row.specs.Reading.{dataOf}
 use Rattle.row.specs.Writing.{pulses, eccWritten, rawWritten}
 use Rattle.row.specs.declared.writing.Written.{Written}
 use Rattle.row.proofs.Codes.{code-lt}
+use Rattle.form.specs.declared.entries.Entry.{Entry}
 use Rattle.job.specs.Verdicts.{entryWritten}
-use Rattle.job.specs.declared.entries.Entry.{Entry}
 use Rattle.laws.specs.Reads.{Value}
 use Rattle.laws.specs.Writes.{In}
 use Rattle.row.specs.Upward.{burntUpward}

@@ -20,12 +20,12 @@ use Rattle.row.proofs.Ladders.{nine}
 use Rattle.chip.specs.Permission.{mayWrite}
 use Rattle.chip.specs.Slices.{rowAt, notWhole, tooLarge}
 use Rattle.chip.specs.declared.state.State.{State}
+use Rattle.form.specs.Entries.{countOf, entryAt, entriesFrom}
+use Rattle.form.specs.Faults.{malformed, outOfOrder}
+use Rattle.form.specs.declared.entries.Entry.{Entry}
 use Rattle.job.specs.Burning.{Progress}
-use Rattle.job.specs.Entries.{countOf, entryAt, entriesFrom}
-use Rattle.job.specs.Faults.{malformed, outOfOrder}
 use Rattle.job.specs.Jobs.{carriedOut, runJob, rehearse}
 use Rattle.job.specs.Verdicts.{unfit, entryRungs, allRungs, verdict, verdictOf}
-use Rattle.job.specs.declared.entries.Entry.{Entry}
 use Rattle.job.specs.declared.verdicts.Verdict.{Verdict}
 use Rattle.job.proofs.Upward.{entry-stops, entry-next}
 use Rattle.laws.specs.Calls.{perform}

@@ -15,11 +15,11 @@ use Rattle.access.specs.Burning.{Left, oneRow}
 use Rattle.access.specs.Judging.{raw}
 use Rattle.access.specs.Writes.{writeRawNumber, writeEccNumber, writeRaw, writeEcc}
 use Rattle.access.proofs.Passing.{whole, call-passed}
+use Rattle.form.specs.Entries.{entriesOf}
 use Rattle.job.specs.Burning.{rehearsed}
-use Rattle.job.specs.Entries.{entriesOf}
 use Rattle.job.specs.Jobs.{runJob, rehearse}
 use Rattle.job.specs.Verdicts.{verdictOf}
-use Rattle.job.proofs.Faulty.{order-sound}
+use Rattle.form.proofs.Faulty.{order-sound}
 use Rattle.job.proofs.Whole.{accepted, whole-job}
 use Rattle.laws.specs.Calls.{perform}
 use Rattle.laws.specs.Cuts.{newlySet}

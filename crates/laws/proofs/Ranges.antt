@@ -11,8 +11,8 @@ use lib.ListN.{set}
 use Rattle.chip.specs.Slices.{rowAt}
 use Rattle.chip.specs.declared.state.State.{State}
 use Rattle.latch.specs.Resetting.{allInRange}
+use Rattle.form.specs.declared.entries.Entry.{Entry}
 use Rattle.job.specs.Burning.{writtenOver, allWritten}
-use Rattle.job.specs.declared.entries.Entry.{Entry}
 use Rattle.laws.specs.Votes.{EachIn}
 use Rattle.laws.proofs.Between.{in-le}
 use Rattle.laws.proofs.Entries.{entry-small}

@@ -18,11 +18,11 @@ use Rattle.row.proofs.Digits.{equal3}
 use Rattle.row.proofs.Places.{bit-lt, bit-and, bit-or, bit-xor, by-digits, and-assoc}
 use Rattle.chip.specs.Slices.{rowAt}
 use Rattle.chip.specs.declared.state.State.{State}
+use Rattle.form.specs.Entries.{entriesOf}
+use Rattle.form.specs.declared.entries.Entry.{Entry}
 use Rattle.job.specs.Burning.{Progress, writtenOver, withEntry, rehearsed}
-use Rattle.job.specs.Entries.{entriesOf}
 use Rattle.job.specs.Jobs.{rehearse}
 use Rattle.job.specs.Verdicts.{verdictOf}
-use Rattle.job.specs.declared.entries.Entry.{Entry}
 use Rattle.row.proofs.Lowest.{lowest-masked}
 use Rattle.laws.specs.Writes.{In}
 use Rattle.laws.specs.Cuts.{ready, CutOf, newlySet, RehearsalCuts}

@@ -13,10 +13,10 @@ use Rattle.chip.specs.Slices.{rowAt, tooLarge}
 use Rattle.chip.specs.Permission.{mayWrite}
 use Rattle.chip.specs.declared.state.State.{State}
 use Rattle.row.proofs.Ladders.{passed}
+use Rattle.form.specs.declared.entries.Entry.{Entry}
 use Rattle.job.specs.Burning.{writtenOver, withEntry, allWritten, allPulses}
 use Rattle.job.specs.Verdicts.{entryRungs}
 use Rattle.job.proofs.Fitting.{entry-nine}
-use Rattle.job.specs.declared.entries.Entry.{Entry}
 use Rattle.laws.specs.Votes.{EachIn}
 use Rattle.laws.specs.Cuts.{newlySet}
 use Rattle.laws.proofs.Writes.{inItself}

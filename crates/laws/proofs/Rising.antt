@@ -10,12 +10,12 @@ use lib.Dec.{eqb, leb}
 use lib.ListN.{set}
 use lib.Seq.{getD-set-other}
 use Rattle.chip.specs.Slices.{rowAt}
+use Rattle.form.specs.Entries.{entryAt, entriesFrom}
+use Rattle.form.specs.Faults.{faultNumber, orderFault, orderFaults}
+use Rattle.form.specs.declared.entries.Entry.{Entry}
+use Rattle.form.specs.declared.faults.Fault.the-variants.{Sound}
 use Rattle.job.specs.Burning.{Progress, writtenOver, withEntry, rehearsed}
-use Rattle.job.specs.Entries.{entryAt, entriesFrom}
-use Rattle.job.specs.Faults.{faultNumber, orderFault, orderFaults}
-use Rattle.job.specs.declared.entries.Entry.{Entry}
-use Rattle.job.specs.declared.faults.Fault.the-variants.{Sound}
-use Rattle.job.proofs.Faulty.{both-sound, order-kept}
+use Rattle.form.proofs.Faulty.{both-sound, order-kept}
 use Rattle.row.proofs.Choices.{both-ways}
 
 -- rows rise from the least, below 0xf40

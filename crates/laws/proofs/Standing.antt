@@ -18,12 +18,12 @@ use Rattle.chip.specs.Slices.{rowAt}
 use Rattle.chip.specs.declared.state.State.{State}
 use Rattle.access.specs.Burning.{Left}
 use Rattle.access.proofs.Passing.{whole}
+use Rattle.form.specs.Entries.{countOf, entryAt, entriesFrom, entriesOf}
+use Rattle.form.specs.declared.entries.Entry.{Entry}
 use Rattle.job.specs.Burning.{Progress, writtenOver, withEntry, rehearsed}
-use Rattle.job.specs.Entries.{countOf, entryAt, entriesFrom, entriesOf}
 use Rattle.job.specs.Jobs.{runJob, rehearse}
 use Rattle.job.specs.Verdicts.{entryWritten, verdictOf}
-use Rattle.job.specs.declared.entries.Entry.{Entry}
-use Rattle.job.proofs.Faulty.{order-sound}
+use Rattle.form.proofs.Faulty.{order-sound}
 use Rattle.job.proofs.Whole.{accepted, whole-job}
 use Rattle.laws.specs.Calls.{perform}
 use Rattle.laws.specs.Jobs.{RunsJob, Stands, PlaceStands}

@@ -22,13 +22,13 @@ use Rattle.chip.specs.Slices.{rowAt}
 use Rattle.chip.specs.declared.state.State.{State}
 use Rattle.access.specs.Judging.{raw, ecc, rowRungs, callRungs}
 use Rattle.access.specs.Writes.{writeRawNumber, writeEccNumber, writeRaw, writeEcc}
+use Rattle.form.specs.Entries.{entriesOf}
+use Rattle.form.specs.Faults.{formFault, formFaults}
+use Rattle.form.specs.declared.entries.Entry.{Entry}
+use Rattle.form.specs.declared.faults.Fault.the-variants.{Sound}
 use Rattle.job.specs.Burning.{writtenOver, withEntry, allWritten, allPulses}
-use Rattle.job.specs.Entries.{entriesOf}
-use Rattle.job.specs.Faults.{formFault, formFaults}
 use Rattle.job.specs.Verdicts.{entryWritten}
-use Rattle.job.specs.declared.entries.Entry.{Entry}
-use Rattle.job.specs.declared.faults.Fault.the-variants.{Sound}
-use Rattle.job.proofs.Faulty.{both-sound, forms-sound, form-kept}
+use Rattle.form.proofs.Faulty.{both-sound, forms-sound, form-kept}
 use Rattle.laws.specs.Calls.{Chip, Result, aRawWrite, anEccWrite, perform}
 use Rattle.laws.specs.Jobs.{writeOf, EachDone, writesOf, EachInTurn}
 use Rattle.laws.proofs.Acceptance.{ran-number, ran, accepted-by}

@@ -8,10 +8,10 @@ use Rattle.chip.specs.Slices.{rowAt}
 use Rattle.chip.specs.declared.state.State.{State}
 use Rattle.latch.specs.Calls.{enterKey}
 use Rattle.latch.specs.Resetting.{resetNumber, reset}
+use Rattle.form.specs.Entries.{entriesOf}
+use Rattle.form.specs.declared.entries.Entry.{Entry}
 use Rattle.job.specs.Burning.{writtenOver, withEntry, allWritten}
-use Rattle.job.specs.Entries.{entriesOf}
 use Rattle.job.specs.Jobs.{runJob, rehearse}
-use Rattle.job.specs.declared.entries.Entry.{Entry}
 use Rattle.laws.specs.Writes.{In}
 
 -- a key entered, or none

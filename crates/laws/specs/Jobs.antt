@@ -10,10 +10,10 @@ use Rattle.row.specs.Rungs.{firstOf}
 use Rattle.row.specs.declared.answer.Answer.{Answer}
 use Rattle.chip.specs.Permission.{mayWrite}
 use Rattle.chip.specs.Slices.{rowAt}
+use Rattle.form.specs.Entries.{countOf, entryAt, entriesOf}
+use Rattle.form.specs.declared.entries.Entry.{Entry}
 use Rattle.job.specs.Burning.{writtenOver}
-use Rattle.job.specs.Entries.{countOf, entryAt, entriesOf}
 use Rattle.job.specs.Verdicts.{entryRungs}
-use Rattle.job.specs.declared.entries.Entry.{Entry}
 use Rattle.laws.specs.Calls.{Chip, Call, aRawWrite, anEccWrite, aJob, aRehearsal, perform}
 use Rattle.laws.specs.Cuts.{Bytes}
 use Rattle.laws.specs.Writes.{In}

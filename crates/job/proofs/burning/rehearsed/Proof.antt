@@ -10,12 +10,12 @@ use lib.ListN.{length, set, length-set}
 use Rattle.row.specs.declared.writing.Written.{Written}
 use Rattle.row.specs.Upward.{burntUpward}
 use Rattle.chip.specs.Slices.{rowAt}
+use Rattle.form.specs.Entries.{entryAt, entriesFrom}
+use Rattle.form.specs.declared.entries.Entry.{Entry}
 use Rattle.job.specs.Burning.{Progress, writtenOver, withEntry, rehearsed}
-use Rattle.job.specs.Entries.{entryAt, entriesFrom}
 use Rattle.job.specs.Verdicts.{entryWritten}
-use Rattle.job.specs.declared.entries.Entry.{Entry}
+use Rattle.form.proofs.Upward.{all-left}
 use Rattle.job.proofs.Ahead.{ahead, none-ahead, one-ahead, burn-next, burn-stops, burn-ends}
-use Rattle.job.proofs.Upward.{all-left}
 use Rattle.job.proofs.burning.rehearsed.Statement.{statement}
 use Rattle.job.proofs.burning.rehearsed.Tie as tie
 

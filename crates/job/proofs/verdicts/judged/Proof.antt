@@ -11,11 +11,12 @@ use mathlib.Core.List.{List}
 use Rattle.row.specs.Rungs.{firstOf}
 use Rattle.chip.specs.Permission.{mayWrite}
 use Rattle.chip.specs.declared.state.State.{State}
-use Rattle.job.specs.Entries.{entriesFrom}
-use Rattle.job.specs.declared.entries.Entry.{Entry}
+use Rattle.form.specs.Entries.{entriesFrom}
+use Rattle.form.specs.declared.entries.Entry.{Entry}
 use Rattle.job.specs.Verdicts.{entryRungs, allRungs, verdict}
 use Rattle.job.specs.declared.verdicts.Verdict.{Verdict}
-use Rattle.job.proofs.Upward.{all-left, none-left, judged-stops, judged-next}
+use Rattle.form.proofs.Upward.{all-left, none-left}
+use Rattle.job.proofs.Upward.{judged-stops, judged-next}
 use Rattle.job.proofs.verdicts.judged.Statement.{statement}
 use Rattle.job.proofs.verdicts.judged.Tie as tie
 

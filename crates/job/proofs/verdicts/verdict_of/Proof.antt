@@ -5,11 +5,11 @@ use denote.Ref.{now}
 use mathlib.Core.Path.{_≡_, sym, ap, _∙_}
 use Prim.Native.Nat.{ℕ}
 use borrow.Author.Tests.{eq-eqb, ne-eqb}
-use Rattle.job.specs.Entries.{entriesFrom, entriesOf}
-use Rattle.job.specs.Faults.{faultNumber, faultOf}
+use Rattle.form.specs.Entries.{entriesFrom, entriesOf}
+use Rattle.form.specs.Faults.{faultNumber, faultOf}
 use Rattle.job.specs.Verdicts.{allRungs, verdict, verdictOf}
 use Rattle.job.specs.declared.verdicts.Verdict.{Verdict}
-use Rattle.job.proofs.Faulty.{rungs-stop, rungs-next}
+use Rattle.job.proofs.Upward.{rungs-stop, rungs-next}
 use Rattle.job.proofs.verdicts.verdict_of.Statement.{statement}
 use Rattle.job.proofs.verdicts.verdict_of.Tie as tie
 

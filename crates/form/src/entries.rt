@@ -1,7 +1,7 @@
 // Job bytes to entries (document 01, "Jobs").
 ghost use mathlib.Core.Path.{_≡_};
 ghost use Prim.Native.Nat.{_^_, _<_};
-ghost use Rattle.job.specs.Entries as spec;
+ghost use Rattle.form.specs.Entries as spec;
 
 // One entry: a row, a kind (0 is ECC, 1 is raw) and a value.
 pub struct Entry {

@@ -1,10 +1,10 @@
--- `job::faults::head_fault` meets its contract: each answer by the tests that led to it.
+-- `form::faults::head_fault` meets its contract: each answer by the tests that led to it.
 -- Assumes nothing.
 use borrow.Author.Needs.{needs}
 use borrow.Author.Tests.{lt-ltb, le-ltb, eq-eqb, ne-eqb, not-true, not-false}
-use Rattle.job.specs.Faults.{headFault}
-use Rattle.job.proofs.faults.head_fault.Statement.{statement}
-use Rattle.job.proofs.faults.head_fault.Tie as tie
+use Rattle.form.specs.Faults.{headFault}
+use Rattle.form.proofs.faults.head_fault.Statement.{statement}
+use Rattle.form.proofs.faults.head_fault.Tie as tie
 
 returns : tie.Need-returns
 unfolding headFault

@@ -5,10 +5,10 @@ use mathlib.Core.List.{List, [], _∷_}
 use lib.Dec.{eqb, ltb, leb}
 use lib.ListN.{length}
 use Rattle.row.specs.Choice.{if_then_else_}
-use Rattle.job.specs.Entries.{byteAt, versionOf, countOf, entriesOf}
-use Rattle.job.specs.declared.entries.Entry.{Entry}
-use Rattle.job.specs.declared.faults.Fault.{Fault}
-use Rattle.job.specs.declared.faults.Fault.the-variants.{Sound, Short, Mark, Version, Count, Length, Kind, Value, High, Order}
+use Rattle.form.specs.Entries.{byteAt, versionOf, countOf, entriesOf}
+use Rattle.form.specs.declared.entries.Entry.{Entry}
+use Rattle.form.specs.declared.faults.Fault.{Fault}
+use Rattle.form.specs.declared.faults.Fault.the-variants.{Sound, Short, Mark, Version, Count, Length, Kind, Value, High, Order}
 
 -- the number of a fault, and 0 where there is none
 abbrev pub faultNumber : Fault → ℕ

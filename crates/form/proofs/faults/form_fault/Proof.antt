@@ -1,8 +1,8 @@
--- `job::faults::form_fault` meets its contract: each answer by the tests that led to it.
+-- `form::faults::form_fault` meets its contract: each answer by the tests that led to it.
 -- Assumes nothing.
 use borrow.Author.Tests.{lt-ltb, le-ltb, eq-eqb, ne-eqb}
-use Rattle.job.proofs.faults.form_fault.Statement.{statement}
-use Rattle.job.proofs.faults.form_fault.Tie as tie
+use Rattle.form.proofs.faults.form_fault.Statement.{statement}
+use Rattle.form.proofs.faults.form_fault.Tie as tie
 
 returns : tie.Need-returns
 returns c = simp (lt-ltb _ _ (c .if1 .taken))

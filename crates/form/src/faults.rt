@@ -1,7 +1,7 @@
 // What is wrong with a job's bytes: why it is answered 10 or 11 (document 01, "Jobs").
 ghost use mathlib.Core.Path.{_≡_};
-ghost use Rattle.job.specs.Entries.{entriesFrom};
-ghost use Rattle.job.specs.Faults as spec;
+ghost use Rattle.form.specs.Entries.{entriesFrom};
+ghost use Rattle.form.specs.Faults as spec;
 use crate::entries::Entry;
 use crate::entries::byte_at;
 use crate::entries::count_of;

@@ -2,7 +2,7 @@
 use Prim.Native.Nat.{ℕ, zero, suc, _+_, _*_}
 use mathlib.Core.List.{List, [], _∷_}
 use lib.ListN.{getD}
-use Rattle.job.specs.declared.entries.Entry.{Entry}
+use Rattle.form.specs.declared.entries.Entry.{Entry}
 
 -- the byte at a place
 abbrev pub byteAt : List ℕ → ℕ → ℕ

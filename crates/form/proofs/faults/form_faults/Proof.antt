@@ -1,16 +1,16 @@
--- `job::faults::form_faults` meets its contract. The invariant: the entries that are left have the first fault of the whole.
+-- `form::faults::form_faults` meets its contract. The invariant: the entries that are left have the first fault of the whole.
 -- Assumes nothing.
 use borrow.Author.Needs.{needs}
 use denote.Ref.{now}
 use mathlib.Core.Path.{_≡_, sym, ap, _∙_}
 use Prim.Native.Nat.{_-_, _≤_}
 use native.Mathlib.Omega.{arith}
-use Rattle.job.specs.Entries.{entriesFrom}
-use Rattle.job.specs.Faults.{faultNumber, formFault, formFaults}
-use Rattle.job.proofs.Faulty.{form-stops, form-next}
-use Rattle.job.proofs.Upward.{all-left, none-left}
-use Rattle.job.proofs.faults.form_faults.Statement.{statement}
-use Rattle.job.proofs.faults.form_faults.Tie as tie
+use Rattle.form.specs.Entries.{entriesFrom}
+use Rattle.form.specs.Faults.{faultNumber, formFault, formFaults}
+use Rattle.form.proofs.Faulty.{form-stops, form-next}
+use Rattle.form.proofs.Upward.{all-left, none-left}
+use Rattle.form.proofs.faults.form_faults.Statement.{statement}
+use Rattle.form.proofs.faults.form_faults.Tie as tie
 
 abbrev Inv-loop : tie.InvT-loop
 Inv-loop job count i₀ i =

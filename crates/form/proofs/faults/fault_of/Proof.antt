@@ -1,14 +1,14 @@
--- `job::faults::fault_of` meets its contract: the first part that has a fault answers.
+-- `form::faults::fault_of` meets its contract: the first part that has a fault answers.
 -- Assumes nothing.
 use borrow.Author.Needs.{needs}
 use denote.Ref.{now}
 use mathlib.Core.Path.{sym, ap, _∙_}
 use Prim.Native.Nat.{ℕ}
-use Rattle.job.specs.Entries.{entriesFrom}
-use Rattle.job.specs.Faults.{faultNumber, formFaults, orderFaults}
-use Rattle.job.proofs.Faulty.{head-stops, form-stops-all, order-last}
-use Rattle.job.proofs.faults.fault_of.Statement.{statement}
-use Rattle.job.proofs.faults.fault_of.Tie as tie
+use Rattle.form.specs.Entries.{entriesFrom}
+use Rattle.form.specs.Faults.{faultNumber, formFaults, orderFaults}
+use Rattle.form.proofs.Faulty.{head-stops, form-stops-all, order-last}
+use Rattle.form.proofs.faults.fault_of.Statement.{statement}
+use Rattle.form.proofs.faults.fault_of.Tie as tie
 
 head-fault-requires : tie.Need-head-fault-requires
 head-fault-requires c κs = search needs

@@ -1,9 +1,9 @@
--- `job::faults::marked` meets its contract: byte by byte.
+-- `form::faults::marked` meets its contract: byte by byte.
 -- Assumes nothing.
 use borrow.Author.Needs.{needs}
 use borrow.Author.Tests.{eq-eqb, ne-eqb}
-use Rattle.job.proofs.faults.marked.Statement.{statement}
-use Rattle.job.proofs.faults.marked.Tie as tie
+use Rattle.form.proofs.faults.marked.Statement.{statement}
+use Rattle.form.proofs.faults.marked.Tie as tie
 
 byte-at-requires : tie.Need-byte-at-requires
 byte-at-requires c κs = search needs

@@ -1,17 +1,17 @@
--- `job::faults::order_faults` meets its contract. The invariant: the entries that are left have the first fault of the whole.
+-- `form::faults::order_faults` meets its contract. The invariant: the entries that are left have the first fault of the whole.
 -- Assumes nothing.
 use borrow.Author.Needs.{needs}
 use denote.Ref.{now}
 use mathlib.Core.Path.{_≡_, sym, ap, _∙_}
 use Prim.Native.Nat.{ℕ, _+_, _-_, _≤_, _<_}
 use native.Mathlib.Omega.{arith}
-use Rattle.job.specs.Entries.{entriesFrom}
-use Rattle.job.specs.Faults.{faultNumber, orderFault, orderFaults}
-use Rattle.job.specs.declared.entries.Entry.{Entry}
-use Rattle.job.proofs.Faulty.{order-stops, order-next, order-kept}
-use Rattle.job.proofs.Upward.{all-left, none-left}
-use Rattle.job.proofs.faults.order_faults.Statement.{statement}
-use Rattle.job.proofs.faults.order_faults.Tie as tie
+use Rattle.form.specs.Entries.{entriesFrom}
+use Rattle.form.specs.Faults.{faultNumber, orderFault, orderFaults}
+use Rattle.form.specs.declared.entries.Entry.{Entry}
+use Rattle.form.proofs.Faulty.{order-stops, order-next, order-kept}
+use Rattle.form.proofs.Upward.{all-left, none-left}
+use Rattle.form.proofs.faults.order_faults.Statement.{statement}
+use Rattle.form.proofs.faults.order_faults.Tie as tie
 
 abbrev Inv-loop : tie.InvT-loop
 Inv-loop job count least₀ i₀ least i =

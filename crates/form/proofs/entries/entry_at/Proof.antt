@@ -1,9 +1,9 @@
--- `job::entries::entry_at` meets its contract, part by part.
+-- `form::entries::entry_at` meets its contract, part by part.
 -- Assumes nothing.
 use borrow.Author.Needs.{needs}
-use Rattle.job.specs.Entries.{entryAt}
-use Rattle.job.proofs.entries.entry_at.Statement.{statement}
-use Rattle.job.proofs.entries.entry_at.Tie as tie
+use Rattle.form.specs.Entries.{entryAt}
+use Rattle.form.proofs.entries.entry_at.Statement.{statement}
+use Rattle.form.proofs.entries.entry_at.Tie as tie
 
 mul-at : tie.Need-mul-at
 mul-at c = search needs

@@ -1,8 +1,8 @@
--- `job::faults::order_fault` meets its contract: each answer by the tests that led to it.
+-- `form::faults::order_fault` meets its contract: each answer by the tests that led to it.
 -- Assumes nothing.
 use borrow.Author.Tests.{lt-ltb, le-ltb, le-leb, lt-leb}
-use Rattle.job.proofs.faults.order_fault.Statement.{statement}
-use Rattle.job.proofs.faults.order_fault.Tie as tie
+use Rattle.form.proofs.faults.order_fault.Statement.{statement}
+use Rattle.form.proofs.faults.order_fault.Tie as tie
 
 returns : tie.Need-returns
 returns c = simp (le-leb _ _ (c .if1 .taken))

@@ -2,22 +2,20 @@
 -- Assumes nothing.
 use mathlib.Core.Path.{_≡_, refl, ap, _∙_}
 use mathlib.Core.Bool.{Bool, true, false, not, _&&_}
-use mathlib.Core.List.{List, _∷_}
+use mathlib.Core.List.{List}
 use Prim.Native.Nat.{ℕ, _+_, _-_, _≤_, _<_}
 use native.Mathlib.Omega.{arith}
 use borrow.Author.Tests.{eq-eqb, ne-eqb, eqb-false, leb-false, ltb-false}
 use lib.Dec.{eqb, leb, ltb}
 use lib.ListN.{length}
 use Rattle.row.specs.Choice.{if_then_else_}
-use Rattle.row.specs.Rungs.{Rung, _when_}
 use Rattle.row.proofs.Ladders.{never-zero}
-use Rattle.job.specs.Entries.{versionOf, countOf, entryAt, entriesFrom, entriesOf}
-use Rattle.job.specs.Faults.{faultNumber, _otherwise_, marked, headFault, formFault, formFaults, orderFault, orderFaults, faultOf}
-use Rattle.job.specs.Verdicts.{verdict}
-use Rattle.job.specs.declared.entries.Entry.{Entry}
-use Rattle.job.specs.declared.faults.Fault.{Fault}
-use Rattle.job.specs.declared.faults.Fault.the-variants.{Sound, Short, Mark, Version, Count, Length, Kind, Value, High, Order}
-use Rattle.job.proofs.Upward.{next-left}
+use Rattle.form.specs.Entries.{versionOf, countOf, entryAt, entriesFrom, entriesOf}
+use Rattle.form.specs.Faults.{faultNumber, _otherwise_, marked, headFault, formFault, formFaults, orderFault, orderFaults, faultOf}
+use Rattle.form.specs.declared.entries.Entry.{Entry}
+use Rattle.form.specs.declared.faults.Fault.{Fault}
+use Rattle.form.specs.declared.faults.Fault.the-variants.{Sound, Short, Mark, Version, Count, Length, Kind, Value, High, Order}
+use Rattle.form.proofs.Upward.{next-left}
 
 fault-stops : (fault next : Fault) → (faultNumber fault ≡ 0 → ⊥) → (fault otherwise next) ≡ fault
 fault-stops fault next some = rw (ne-eqb (faultNumber fault) 0 some)
@@ -79,35 +77,6 @@ order-kept i least e none = go (leb 0xf40 (e .row)) (ltb (e .row) least) refl re
     go true low is-high is-low = let eleven : _≡_ {A = ℕ} 11 0 = rw is-high at none in absurd (omega arith)
     go false true is-high is-low = let eleven : _≡_ {A = ℕ} 11 0 = rw (is-high, is-low) at none in absurd (omega arith)
     go false false is-high is-low = (leb-false 0xf40 (e .row) is-high, ltb-false (e .row) least is-low)
-
--- the two rungs of a fault, and then the rest
-module _ (rest : List Rung) where
-  abbrev own : Fault → List Rung
-  own fault = 10 when eqb (faultNumber fault) 10 ∷ 11 when eqb (faultNumber fault) 11 ∷ rest
-
-  pub rungs-stop : (fault : Fault) → (faultNumber fault ≡ 0 → ⊥) → verdict (own fault) ≡ record { number = faultNumber fault; place = 0 }
-  rungs-stop Sound some = absurd (some refl)
-  rungs-stop Short some = refl
-  rungs-stop Mark some = refl
-  rungs-stop Version some = refl
-  rungs-stop Count some = refl
-  rungs-stop Length some = refl
-  rungs-stop (Kind i) some = refl
-  rungs-stop (Value i) some = refl
-  rungs-stop (High i) some = refl
-  rungs-stop (Order i) some = refl
-
-  pub rungs-next : (fault : Fault) → faultNumber fault ≡ 0 → verdict (own fault) ≡ verdict rest
-  rungs-next Sound none = refl
-  rungs-next Short none = absurd (omega arith)
-  rungs-next Mark none = absurd (omega arith)
-  rungs-next Version none = absurd (omega arith)
-  rungs-next Count none = absurd (omega arith)
-  rungs-next Length none = absurd (omega arith)
-  rungs-next (Kind i) none = absurd (omega arith)
-  rungs-next (Value i) none = absurd (omega arith)
-  rungs-next (High i) none = absurd (omega arith)
-  rungs-next (Order i) none = absurd (omega arith)
 
 -- ---- no fault
 

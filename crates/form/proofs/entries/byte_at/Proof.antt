@@ -1,4 +1,4 @@
--- `job::entries::byte_at` meets its contract: past the end there is nothing, and a byte is below 256.
+-- `form::entries::byte_at` meets its contract: past the end there is nothing, and a byte is below 256.
 -- Assumes nothing.
 use borrow.Author.Needs.{needs}
 use mathlib.Core.Path.{refl, sym}
@@ -6,8 +6,8 @@ use denote.Ref.{now}
 use Prim.Native.Nat.{_-_}
 use native.Mathlib.Omega.{arith}
 use lib.ListN.{List·getD-eq-default}
-use Rattle.job.proofs.entries.byte_at.Statement.{statement}
-use Rattle.job.proofs.entries.byte_at.Tie as tie
+use Rattle.form.proofs.entries.byte_at.Statement.{statement}
+use Rattle.form.proofs.entries.byte_at.Tie as tie
 
 returns : tie.Need-returns
 returns c = (sym (List·getD-eq-default (now (c .before .args .job)) 0 (c .if1 .taken)), omega arith)
