@@ -11,9 +11,9 @@ use chip::state::State;
 use row::answer::Answer;
 use row::answer::refused;
 use row::answer::told;
-use row::voting::Gathered;
-use row::voting::threshold;
-use row::voting::vote;
+use vote::voting::Gathered;
+use vote::voting::threshold;
+use vote::voting::vote;
 
 // The number of the first of `count` rows, taken upward, that is not 0.
 fn group_number(rows: &[u32], state: State, caller: u32, row: u32, count: u32) -> u32

@@ -8,10 +8,11 @@ use lib.Bits.{bitAnd, bitOr, or-lt, and-lt}
 use lib.Dec.{leb, lit≤}
 use lib.Pow.{pow-pos, pow-mono}
 use Rattle.row.specs.Choice.{if_then_else_}
-use Rattle.row.specs.Voting.{bitAt, holders, votedBit, vote}
+use Rattle.row.specs.Code.{bitAt}
 use Rattle.row.proofs.Digits.{equal3}
 use Rattle.row.proofs.Places.{bit-and, bit-or, bit-lt}
-use Rattle.row.proofs.Votes.{voted-is}
+use Rattle.vote.specs.Voting.{holders, votedBit, vote}
+use Rattle.vote.proofs.Votes.{voted-is}
 use Rattle.latch.specs.Locks.{votedByte}
 
 abbrev pub majority : ℕ → ℕ → ℕ → ℕ

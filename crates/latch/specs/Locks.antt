@@ -3,7 +3,7 @@ use Prim.Native.Nat.{ℕ, _/_, _%_, min}
 use mathlib.Core.Bool.{Bool}
 use mathlib.Core.List.{List, [], _∷_}
 use lib.Dec.{eqb}
-use Rattle.row.specs.Voting.{vote, threshold}
+use Rattle.vote.specs.Voting.{threshold, vote}
 
 -- bytes 7:0, 15:8 and 23:16 of a row are three copies
 abbrev pub copies : ℕ → List ℕ

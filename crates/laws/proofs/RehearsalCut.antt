@@ -9,9 +9,8 @@ use borrow.Author.Tests.{leb-false}
 use lib.Bits.{bitAnd, bitOr, differ}
 use lib.Dec.{leb}
 use lib.ListN.{length, set, length-set}
-use Rattle.row.specs.Code.{setBits, flipped}
+use Rattle.row.specs.Code.{bitAt, setBits, flipped}
 use Rattle.row.specs.Upward.{burntUpward}
-use Rattle.row.specs.Voting.{bitAt}
 use Rattle.row.specs.Writing.{pulses}
 use Rattle.row.proofs.Counts.{ones-same}
 use Rattle.row.proofs.Digits.{equal3}

@@ -12,10 +12,11 @@ use lib.Bits.{bitAnd, and-le-l}
 use lib.Dec.{leb}
 use lib.ListN.{length}
 use Rattle.row.specs.Choice.{if_then_else_}
-use Rattle.row.specs.Voting.{bitAt, holders, vote}
+use Rattle.row.specs.Code.{bitAt}
 use Rattle.row.proofs.Digits.{zero-or-one}
 use Rattle.row.proofs.Places.{bit-lt, bit-and, same-below}
-use Rattle.row.proofs.Votes.{voted-lt, bit-voted}
+use Rattle.vote.specs.Voting.{holders, vote}
+use Rattle.vote.proofs.Votes.{voted-lt, bit-voted}
 use Rattle.laws.specs.Writes.{In}
 use Rattle.laws.specs.Votes.{VotedBit, VoteIsRow, Each, VoteOfEqual, EachIn, VoteKeepsBits}
 use Rattle.laws.proofs.Writes.{shared, in-shared}

@@ -10,9 +10,8 @@ use borrow.Author.Tests.{eqb-true, eqb-false, eq-eqb, ne-eqb}
 use lib.Bits.{bitAnd, bitOr, differ, and-self}
 use lib.Dec.{eqb, eqb→eq}
 use Rattle.row.specs.Answers.{found}
-use Rattle.row.specs.Code.{setBits, code, flipped, plain, inverted}
+use Rattle.row.specs.Code.{bitAt, setBits, code, flipped, plain, inverted}
 use Rattle.row.specs.Reading.{decoded, readRow}
-use Rattle.row.specs.Voting.{bitAt}
 use Rattle.row.specs.Writing.{fits, pulses, burntOver, leftAlone, eccWritten}
 use Rattle.row.specs.declared.answer.Condition.the-variants.{Clean}
 use Rattle.row.specs.declared.writing.Written.{Written}

@@ -4,7 +4,8 @@ use mathlib.Core.Logic.{_↔_}
 use mathlib.Core.Path.{_≡_}
 use Prim.Native.Nat.{ℕ, _^_, _≤_, _<_}
 use lib.ListN.{length}
-use Rattle.row.specs.Voting.{bitAt, holders, vote}
+use Rattle.row.specs.Code.{bitAt}
+use Rattle.vote.specs.Voting.{holders, vote}
 use Rattle.laws.specs.Writes.{In}
 
 -- a bit is set exactly if at least the threshold's number of rows have it

@@ -4,6 +4,5 @@ pub mod Places
 pub mod Counts
 pub mod Codes
 pub mod Syndromes
-pub mod Votes
 pub mod Lowest
 pub mod Ladders

@@ -13,7 +13,7 @@ use lib.Count.{onesIn}
 use lib.Dec.{ltb, leb, lit<}
 use lib.Pow.{pow-pos, mod-pow-add}
 use Rattle.row.specs.Choice.{if_then_else_}
-use Rattle.row.specs.Voting.{bitAt}
+use Rattle.row.specs.Code.{bitAt}
 use Rattle.row.proofs.Counts.{ones-more, ones-low, ones-wider}
 use Rattle.row.proofs.Places.{bit-lt}
 use Rattle.row.specs.Upward.{lowestBelow}

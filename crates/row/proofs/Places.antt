@@ -11,7 +11,7 @@ use lib.Arith.{half-le, le-zero, digits-mod}
 use lib.Bits.{bitAnd, bitOr, bitXor, differ, and-step, or-step, xor-step, and-comm, and-mask, and-block, and-shr, or-shr, xor-shr}
 use lib.Dec.{T, ltb, eqb, ltb→lt}
 use lib.Pow.{pow-pos, pow-mono, split, shr-shr, field, mod-mod-pow}
-use Rattle.row.specs.Voting.{bitAt}
+use Rattle.row.specs.Code.{bitAt}
 use Rattle.row.proofs.Digits.{tried2, tried3, at-digits2, equal3}
 
 pub two-pos : zero < 2

@@ -1,8 +1,12 @@
 -- A row with ECC: the code of a value, and the two rows that hold it (document 01, "A row with ECC"; datasheet 13.6).
-use Prim.Native.Nat.{ℕ, suc, _*_, _%_, _^_}
+use Prim.Native.Nat.{ℕ, suc, _*_, _/_, _%_, _^_}
 use mathlib.Core.List.{List, [], _∷_}
 use lib.Bits.{bitAnd, bitOr, bitXor}
 use lib.Count.{onesIn}
+
+-- the bit at a place of a row, 1 or 0
+abbrev pub bitAt : ℕ → ℕ → ℕ
+bitAt place row = row / 2 ^ place % 2
 
 -- how many of a row's 24 bits are set
 unfoldable pub setBits : ℕ → ℕ

@@ -4,5 +4,4 @@ pub mod Rungs
 pub mod Code
 pub mod Reading
 pub mod Writing
-pub mod Voting
 pub mod Upward

@@ -4,8 +4,7 @@ use lib.Bits.{bitAnd, bitOr}
 use lib.Count.{onesIn}
 use lib.Dec.{ltb}
 use Rattle.row.specs.Choice.{if_then_else_}
-use Rattle.row.specs.Code.{flipped}
-use Rattle.row.specs.Voting.{bitAt}
+use Rattle.row.specs.Code.{bitAt, flipped}
 
 -- of some bits the n lowest, among those below `places`: a bit is among them if fewer than n are set below it
 unfoldable pub lowestBelow : ℕ → ℕ → ℕ → ℕ

@@ -1,8 +1,7 @@
-// One row of 24 bits (document 01, "A row with ECC" and "Votes"): its code, both polarities, repair, what a write leaves, also cut short, votes.
+// One row of 24 bits (document 01, "A row with ECC" and "Jobs"): its code, both polarities, repair, what a write leaves, also cut short.
 // The definitions that the contracts cite stand in specs/, in document 01's words and order.
 pub mod answer;
 pub mod coding;
 pub mod reading;
 pub mod upward;
-pub mod voting;
 pub mod writing;

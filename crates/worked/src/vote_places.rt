@@ -1,9 +1,9 @@
 // Votes on each of the 24 places by itself, for each number of rows that have the bit there.
 // Which rows have it goes round with the place, so that no row is always among them.
 use crate::print;
-use row::voting::vote;
 use screen::tally;
 use screen::tally::Tally;
+use vote::voting::vote;
 
 const FULL: u32 = 0xffffff;
 

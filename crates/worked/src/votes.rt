@@ -1,10 +1,10 @@
 // Votes over gathered rows (document 01, "Votes"): two of three, three of eight, and how many of
 // the eight rows are counted.
 use crate::print;
-use row::voting::threshold;
-use row::voting::vote;
 use screen::tally;
 use screen::tally::Tally;
+use vote::voting::threshold;
+use vote::voting::vote;
 
 const FULL: u32 = 0xffffff;
 

@@ -8,7 +8,7 @@ use mathlib.Core.Logic.{⊎-elim}
 use lib.Count.{onesIn}
 use lib.Pow.{shl-exact, pow-mono}
 use native.Mathlib.Nat.{mul-le-mul-right}
-use Rattle.row.specs.Voting.{bitAt}
+use Rattle.row.specs.Code.{bitAt}
 use Rattle.row.proofs.Counts.{ones-le, ones-more}
 use Rattle.row.proofs.Places.{bit-lt}
 use Rattle.row.specs.Upward.{lowestBelow}

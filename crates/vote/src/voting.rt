@@ -2,7 +2,7 @@
 ghost use mathlib.Core.Path.{_≡_};
 ghost use Prim.Native.Nat.{_<_, _≤_};
 ghost use lib.ListN.{take};
-ghost use Rattle.row.specs.Voting as spec;
+ghost use Rattle.vote.specs.Voting as spec;
 
 // Eight gathered rows, of which the first few count.
 pub type Gathered = [u32; 8];

@@ -1,4 +1,4 @@
--- `row::voting::vote` meets its contract. The invariant: the bits judged so far are those of the vote, and no other is set.
+-- `vote::voting::vote` meets its contract. The invariant: the bits judged so far are those of the vote, and no other is set.
 -- Assumes nothing.
 use borrow.Author.Needs.{needs}
 use mathlib.Core.List.{List}
@@ -10,11 +10,10 @@ use native.Mathlib.Nat.{one-mul}
 use mathlib.Core.Logic.{inl, inr, ⊎-elim}
 use lib.Dec.{lit<}
 use lib.Pow.{shl-exact, pow-mono}
-use Rattle.row.specs.Voting.{vote}
-use Rattle.row.proofs.Votes.{voted-lt, voted-set, voted-clear, counted-rows}
-use Rattle.row.specs.Voting.{votedBelow}
-use Rattle.row.proofs.voting.vote.Statement.{statement}
-use Rattle.row.proofs.voting.vote.Tie as tie
+use Rattle.vote.specs.Voting.{votedBelow, vote}
+use Rattle.vote.proofs.Votes.{voted-lt, voted-set, voted-clear, counted-rows}
+use Rattle.vote.proofs.voting.vote.Statement.{statement}
+use Rattle.vote.proofs.voting.vote.Tie as tie
 
 abbrev Inv-loop : tie.InvT-loop
 Inv-loop rows count threshold counted voted₀ place₀ voted place =

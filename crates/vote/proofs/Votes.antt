@@ -13,9 +13,10 @@ use lib.Dec.{leb, lit<}
 use lib.ListN.{length, getD, take}
 use lib.Pow.{high, low, mod-pow-add}
 use lib.Seq.{take-nil, take-all, length-take-le, getD-take}
 use Rattle.row.specs.Choice.{if_then_else_}
-use Rattle.row.specs.Voting.{bitAt, holders, votedBit, votedBelow}
+use Rattle.row.specs.Code.{bitAt}
 use Rattle.row.proofs.Places.{bit-low}
+use Rattle.vote.specs.Voting.{holders, votedBit, votedBelow}
 
 -- one row more; past the last row there is nothing to count
 pub holders-more : (place : ℕ) (rows : List ℕ) (i : ℕ)

@@ -1,8 +1,8 @@
--- `row::voting::threshold` meets its contract.
+-- `vote::voting::threshold` meets its contract.
 -- Assumes nothing.
 use borrow.Author.Tests.{eq-eqb, ne-eqb}
-use Rattle.row.proofs.voting.threshold.Statement.{statement}
-use Rattle.row.proofs.voting.threshold.Tie as tie
+use Rattle.vote.proofs.voting.threshold.Statement.{statement}
+use Rattle.vote.proofs.voting.threshold.Tie as tie
 
 returns : tie.Need-returns
 returns c = simp (eq-eqb _ _ (c .if1 .taken))

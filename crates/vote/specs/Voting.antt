@@ -1,16 +1,13 @@
 -- Votes (document 01, "Votes").
-use Prim.Native.Nat.{ℕ, zero, suc, _+_, _*_, _/_, _%_, _^_}
+use Prim.Native.Nat.{ℕ, zero, suc, _+_, _*_, _^_}
 use mathlib.Core.List.{List, [], _∷_}
 use lib.Dec.{leb, eqb}
 use Rattle.row.specs.Choice.{if_then_else_}
+use Rattle.row.specs.Code.{bitAt}
 
 -- three rows: at least two; eight rows: at least three
 abbrev pub threshold : ℕ → ℕ
 threshold count = if eqb count 3 then 2 else 3
-
--- the bit at a place of a row, 1 or 0
-abbrev pub bitAt : ℕ → ℕ → ℕ
-bitAt place row = row / 2 ^ place % 2
 
 -- how many rows have the bit at a place
 unfoldable pub holders : ℕ → List ℕ → ℕ

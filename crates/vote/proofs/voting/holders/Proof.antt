@@ -1,4 +1,4 @@
--- `row::voting::holders` meets its contract. The invariant: the count so far is that of the rows passed that count,
+-- `vote::voting::holders` meets its contract. The invariant: the count so far is that of the rows passed that count,
 -- and at most one for each.
 -- Assumes nothing.
 use borrow.Author.Needs.{needs}
@@ -8,10 +8,10 @@ use native.Mathlib.Omega.{arith}
 use lib.ListN.{length, getD, take}
 use mathlib.Core.Logic.{⊎-elim}
 use native.Mathlib.Numerals.{add-one}
-use Rattle.row.specs.Voting.{holders}
-use Rattle.row.proofs.Votes.{holders-counted, all-counted}
-use Rattle.row.proofs.voting.holders.Statement.{statement}
-use Rattle.row.proofs.voting.holders.Tie as tie
+use Rattle.vote.specs.Voting.{holders}
+use Rattle.vote.proofs.Votes.{holders-counted, all-counted}
+use Rattle.vote.proofs.voting.holders.Statement.{statement}
+use Rattle.vote.proofs.voting.holders.Tie as tie
 
 abbrev Inv-loop : tie.InvT-loop
 Inv-loop count place rows held₀ i₀ held i = (i ≤ 8) × (held ≤ i) × (held ≡ holders place (take i (take count rows)))

@@ -1,0 +1,2 @@
+// Votes over several rows (document 01, "Votes").
+pub mod voting;
