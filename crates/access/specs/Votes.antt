@@ -6,8 +6,8 @@ use lib.Dec.{eqb, ltb}
 use lib.ListN.{take, drop}
 use Rattle.row.specs.Answers.{told, answered}
 use Rattle.row.specs.Rungs.{Rung, _when_, firstOf}
-use Rattle.vote.specs.Voting.{threshold, vote}
 use Rattle.row.specs.declared.answer.Answer.{Answer}
+use Rattle.vote.specs.Voting.{threshold, vote}
 use Rattle.chip.specs.Permission.{mayRead}
 use Rattle.chip.specs.Slices.{notWhole}
 use Rattle.chip.specs.declared.state.State.{State}
