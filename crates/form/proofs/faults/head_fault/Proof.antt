@@ -1,8 +1,17 @@
 -- `form::faults::head_fault` meets its contract: each answer by the tests that led to it.
 -- Assumes nothing.
 use borrow.Author.Needs.{needs}
+use denote.Ref.{now}
+use mathlib.Core.Bool.{not}
+use mathlib.Core.List.{List}
+use mathlib.Core.Path.{_≡_}
+use Prim.Native.Nat.{ℕ, _+_, _*_}
 use borrow.Author.Tests.{lt-ltb, le-ltb, eq-eqb, ne-eqb, not-true, not-false}
+use lib.Dec.{eqb, ltb}
+use lib.ListN.{length}
+use Rattle.row.specs.Choice.{if_then_else_}
 use Rattle.form.specs.Faults.{headFault}
+use Rattle.form.specs.declared.faults.Fault.the-variants.{Sound, Count, Length}
 use Rattle.form.proofs.faults.head_fault.Statement.{statement}
 use Rattle.form.proofs.faults.head_fault.Tie as tie
 
@@ -33,24 +42,32 @@ returns-3 c =
       ← c .before .before .before .marked .ensures,
       not-false (c .before .before .before .marked .result) (c .before .before .if2 .left),
       ← c .before .version-of .ensures,
-      ne-eqb _ _ (c .if3 .taken),
+      ne-eqb _ 1 (c .if3 .taken),
     )
 
 count-of-requires : tie.Need-count-of-requires
 count-of-requires c κs = search needs
 
-returns-4 : tie.Need-returns-4
+abbrev job-of : tie.After-count-of → List ℕ
+job-of c = now (c .before .before .before .before .before .before .before .args .job)
+
+-- where the code has the count, the definition asks for count and length alone
+count-left : (c : tie.After-count-of)
+    → headFault (job-of c)
+    ≡ (if ltb 512 (c .count-of .result) then Count else if not (eqb (length (job-of c)) (7 + 6 * c .count-of .result)) then Length else Sound)
 unfolding headFault
-returns-4 c =
+count-left c =
     rw (
-      le-ltb _ _ (c .before .before .before .before .before .before .if1 .left),
-      ← c .before .before .before .before .before .marked .ensures,
-      not-false (c .before .before .before .before .before .marked .result) (c .before .before .before .before .if2 .left),
-      ← c .before .before .before .version-of .ensures,
-      eq-eqb _ _ (c .before .before .if3 .left),
-      ← c .before .count-of .ensures .0,
-      lt-ltb _ _ (c .if4 .taken),
+      le-ltb _ _ (c .before .before .before .before .before .if1 .left),
+      ← c .before .before .before .before .marked .ensures,
+      not-false (c .before .before .before .before .marked .result) (c .before .before .before .if2 .left),
+      ← c .before .before .version-of .ensures,
+      eq-eqb _ _ (c .before .if3 .left),
+      ← c .count-of .ensures .0,
     )
+
+returns-4 : tie.Need-returns-4
+returns-4 c = rw (count-left (c .before), lt-ltb 512 _ (c .if4 .taken))
 
 cast-if5 : tie.Need-cast-if5
 cast-if5 c = search needs
@@ -62,32 +79,10 @@ add-if5 : tie.Need-add-if5
 add-if5 c = search needs
 
 returns-5 : tie.Need-returns-5
-unfolding headFault
-returns-5 c =
-    rw (
-      le-ltb _ _ (c .before .before .before .before .before .before .before .if1 .left),
-      ← c .before .before .before .before .before .before .marked .ensures,
-      not-false (c .before .before .before .before .before .before .marked .result) (c .before .before .before .before .before .if2 .left),
-      ← c .before .before .before .before .version-of .ensures,
-      eq-eqb _ _ (c .before .before .before .if3 .left),
-      ← c .before .before .count-of .ensures .0,
-      le-ltb _ _ (c .before .if4 .left),
-      ne-eqb _ _ (c .if5 .taken),
-    )
+returns-5 c = rw (count-left (c .before .before), le-ltb _ _ (c .before .if4 .left), ne-eqb _ _ (c .if5 .taken))
 
 returns-6 : tie.Need-returns-6
-unfolding headFault
-returns-6 c =
-    rw (
-      le-ltb _ _ (c .before .before .before .before .before .before .before .if1 .left),
-      ← c .before .before .before .before .before .before .marked .ensures,
-      not-false (c .before .before .before .before .before .before .marked .result) (c .before .before .before .before .before .if2 .left),
-      ← c .before .before .before .before .version-of .ensures,
-      eq-eqb _ _ (c .before .before .before .if3 .left),
-      ← c .before .before .count-of .ensures .0,
-      le-ltb _ _ (c .before .if4 .left),
-      eq-eqb _ _ (c .if5 .left),
-    )
+returns-6 c = rw (count-left (c .before .before), le-ltb _ _ (c .before .if4 .left), eq-eqb _ _ (c .if5 .left))
 
 pub head-fault-spec : {M : Type 1} → statement M
 head-fault-spec =
