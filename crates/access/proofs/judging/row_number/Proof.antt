@@ -22,11 +22,11 @@ returns-2 c = rw (← c .before .before .hidden .ensures, c .before .if1 .left, 
 
 returns-3 : tie.Need-returns-3
 unfolding rowRungs
-returns-3 c = rw (← c .before .before .before .hidden .ensures, c .before .before .if1 .left, not-false (c .before .before .before .before .before .before .args .may) (c .before .if2 .left), ← c .before .before .before .before .row-at .ensures, lt-ltb _ _ (c .if3 .taken))
+returns-3 c = rw (← c .before .before .before .hidden .ensures, c .before .before .if1 .left, not-false (c .before .before .before .before .before .before .args .may) (c .before .if2 .left), ← c .before .before .before .before .row-at .ensures, lt-ltb 16777215 _ (c .if3 .taken))
 
 returns-4 : tie.Need-returns-4
 unfolding rowRungs
-returns-4 c = rw (← c .before .before .before .hidden .ensures, c .before .before .if1 .left, not-false (c .before .before .before .before .before .before .args .may) (c .before .if2 .left), ← c .before .before .before .before .row-at .ensures, le-ltb _ _ (c .if3 .left))
+returns-4 c = rw (← c .before .before .before .hidden .ensures, c .before .before .if1 .left, not-false (c .before .before .before .before .before .before .args .may) (c .before .if2 .left), ← c .before .before .before .before .row-at .ensures, le-ltb 16777215 _ (c .if3 .left))
 
 pub row-number-spec : {M : Type 1} → statement M
 row-number-spec =

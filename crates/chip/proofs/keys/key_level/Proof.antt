@@ -18,7 +18,7 @@ counted-index-requires-2 c κs = search needs
 
 returns : tie.Need-returns
 unfolding keyLevel
-returns c = rw (← c .before .before .before .counted-index .ensures, ← c .before .before .counted-index2 .ensures, eq-eqb _ _ (c .before .if1 .taken), eq-eqb _ _ (c .if2 .taken))
+returns c = rw (← c .before .before .before .counted-index .ensures, ← c .before .before .counted-index2 .ensures, eq-eqb _ _ (c .before .if1 .taken), eq-eqb (c .before .before .counted-index2 .result) 0 (c .if2 .taken))
 
 matches-requires : tie.Need-matches-requires
 matches-requires c κs = search needs

@@ -1,8 +1,9 @@
 -- `chip::permission::may_write` meets its contract: each answer by the tests that led to it.
 -- Assumes nothing.
 use borrow.Author.Needs.{needs}
+use mathlib.Core.Path.{_≡_}
 use borrow.Author.Tests.{eq-eqb, ne-eqb}
-use Rattle.chip.specs.Permission.{mayWrite}
+use Rattle.chip.specs.Permission.{callerLevel, mayWrite}
 use Rattle.chip.proofs.permission.may_write.Statement.{statement}
 use Rattle.chip.proofs.permission.may_write.Tie as tie
 
@@ -18,7 +19,10 @@ caller-level-requires-2 c κs = search needs
 
 returns-2 : tie.Need-returns-2
 unfolding mayWrite
-returns-2 c = rw (← c .before .before .before .caller-level .ensures, eq-eqb _ _ (c .before .before .if1 .left), ← c .before .caller-level2 .ensures, ne-eqb _ _ (c .if2 .taken))
+returns-2 c =
+    let a = c .before .before .before .before .args in
+    let as-secure : c .before .caller-level2 .result ≡ callerLevel (a .state) 0 (a .row) = c .before .caller-level2 .ensures in
+    rw (← c .before .before .before .caller-level .ensures, eq-eqb _ _ (c .before .before .if1 .left), ← as-secure, ne-eqb _ _ (c .if2 .taken))
 
 row-key-level-requires : tie.Need-row-key-level-requires
 row-key-level-requires c κs = search needs

@@ -5,7 +5,7 @@ use Rattle.form.proofs.faults.form_fault.Statement.{statement}
 use Rattle.form.proofs.faults.form_fault.Tie as tie
 
 returns : tie.Need-returns
-returns c = simp (lt-ltb _ _ (c .if1 .taken))
+returns c = simp (lt-ltb 1 _ (c .if1 .taken))
 
 returns-2 : tie.Need-returns-2
 returns-2 c = simp (le-ltb _ _ (c .before .before .before .before .if1 .left), eq-eqb _ _ (c .before .before .if2 .taken), lt-ltb _ _ (c .if3 .taken))

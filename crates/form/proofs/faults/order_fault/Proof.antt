@@ -5,7 +5,7 @@ use Rattle.form.proofs.faults.order_fault.Statement.{statement}
 use Rattle.form.proofs.faults.order_fault.Tie as tie
 
 returns : tie.Need-returns
-returns c = simp (le-leb _ _ (c .if1 .taken))
+returns c = simp (le-leb 0xf40 _ (c .if1 .taken))
 
 returns-2 : tie.Need-returns-2
 returns-2 c = simp (lt-leb _ _ (c .before .before .if1 .left), lt-ltb _ _ (c .if2 .taken))

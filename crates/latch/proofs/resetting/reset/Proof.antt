@@ -11,7 +11,7 @@ refusal-requires c κs = search needs
 
 returns : tie.Need-returns
 unfolding reset
-returns c = rw (ne-eqb _ _ (c .before .if1 .taken)) (c .refusal .ensures)
+returns c = rw (ne-eqb _ 4096 (c .before .if1 .taken)) (c .refusal .ensures)
 
 all-in-range-requires : tie.Need-all-in-range-requires
 all-in-range-requires c κs = search needs
