@@ -67,4 +67,4 @@ code-data v h = checks-mod masks 0 16 v h ∙ mod-eq-of-lt h
 pub code-lt : (v : ℕ) → v < 2 ^ 16 → code v < 2 ^ 22
 unfolding code masks withChecks
 code-lt v h =
-    check-lt 0x1fffff 21 _ (check-lt 0x00f800 20 _ (check-lt 0x0007f0 19 _ (check-lt 0x00c78e 18 _ (check-lt 0x00366d 17 _ (check-lt 0x00ad5b 16 v h)))))
+    check-lt _ 21 _ (check-lt _ 20 _ (check-lt _ 19 _ (check-lt _ 18 _ (check-lt _ 17 _ (check-lt _ 16 v h)))))

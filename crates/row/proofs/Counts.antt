@@ -1,4 +1,4 @@
--- Counting set bits: place by place, of two parts, of an exclusive or; numbers of few set bits; and parity, which folds.
+-- Counting set bits: place by place, of two parts, of an exclusive or; numbers of few set bits; and parity.
 -- Assumes nothing.
 use mathlib.Core.Bool.{Bool, _&&_}
 use mathlib.Core.Logic.{_⊎_, inl, inr}
@@ -164,11 +164,6 @@ parity-xor a b = ones-xor 24 a b
 pub parity-lt : (a : ℕ) → parity a < 2
 unfolding parity
 parity-lt a = mod-lt (setBits a) two-pos
-
--- the upper half of the places folded onto the lower one keeps the parity
-pub fold : (d n : ℕ) → onesIn (d + d) n % 2 ≡ onesIn d (bitXor n (n / 2 ^ d)) % 2
-fold d n =
-    ap (λ (x : ℕ). x % 2) (ones-split d d n) ∙ sum-parity (onesIn d n) (onesIn d (n / 2 ^ d)) ∙ sym (ones-xor d n (n / 2 ^ d))
 
 -- a count is at most the number of places that it looks at
 pub ones-le : (d n : ℕ) → onesIn d n ≤ d

@@ -63,3 +63,8 @@ at-below (suc n) f t k h = go (eq-or-lt-of-le (le-of-suc-le-suc h)) (at-below n 
     go : (k ≡ n) ⊎ (k < n) → (k < n → T (f k)) → T (f k)
     go (inl e) rest = subst (λ (m : ℕ). T (f m)) (sym e) (both-left (f n) (allBelow n f) t)
     go (inr l) rest = rest l
+
+-- a number is none of the first n keys
+abbrev pub NoneOf : (ℕ → ℕ) → ℕ → ℕ → Type 0
+NoneOf key zero x = Unit
+NoneOf key (suc n) x = NoneOf key n x × (x ≡ key n → ⊥)

@@ -3,6 +3,7 @@ pub mod Digits
 pub mod Places
 pub mod Counts
 pub mod Codes
+pub mod Checks
 pub mod Syndromes
 pub mod Lowest
 pub mod Ladders

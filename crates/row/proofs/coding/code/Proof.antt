@@ -1,40 +1,36 @@
--- `row::coding::code` meets its contract: the six calls are the six turns of `withChecks`.
+-- `row::coding::code` meets its contract: the check bits of the four parts make those of the value.
 -- Assumes nothing.
 use borrow.Author.Needs.{needs}
-use Rattle.row.specs.Code.{code, masks, withChecks}
+use mathlib.Core.Path.{_≡_, ap, ap₂, _∙_}
+use Prim.Native.Nat.{ℕ, _*_, _%_, _^_, _<_}
+use lib.Bits.{bitOr, bitXor}
+use lib.Dec.{lit≤}
+use lib.Pow.{shl-exact}
+use Rattle.row.proofs.Checks.{checks, parted, checks-lt, above}
 use Rattle.row.proofs.coding.code.Statement.{statement}
 use Rattle.row.proofs.coding.code.Tie as tie
 
-with-check-requires : tie.Need-with-check-requires
-with-check-requires c κs = search needs
-
-with-check-requires-2 : tie.Need-with-check-requires-2
-with-check-requires-2 c κs = search needs
-
-with-check-requires-3 : tie.Need-with-check-requires-3
-with-check-requires-3 c κs = search needs
-
-with-check-requires-4 : tie.Need-with-check-requires-4
-with-check-requires-4 c κs = search needs
-
-with-check-requires-5 : tie.Need-with-check-requires-5
-with-check-requires-5 c κs = search needs
-
-with-check-requires-6 : tie.Need-with-check-requires-6
-with-check-requires-6 c κs = search needs
-
 returns : tie.Need-returns
-unfolding code masks withChecks
-returns c = simp (c .with-check6 .ensures, c .before .with-check5 .ensures, c .before .before .with-check4 .ensures, c .before .before .before .with-check3 .ensures, c .before .before .before .before .with-check2 .ensures, c .before .before .before .before .before .with-check .ensures)
+returns c =
+    let start = c .before .before .before .before in
+    let v : ℕ = start .args .value in
+    let small : v < 2 ^ 16 = start .good .0 .1 in
+    let first : ℕ = bitXor (c .before .before .before .low-checks .result) (c .before .before .low-checks2 .result) in
+    let all : bitXor (bitXor first (c .before .high-checks .result)) (c .high-checks2 .result) ≡ checks v =
+    ap₂ bitXor
+    (ap₂ bitXor (ap₂ bitXor (c .before .before .before .low-checks .ensures) (c .before .before .low-checks2 .ensures)) (c .before .high-checks .ensures))
+    (c .high-checks2 .ensures)
+    ∙ parted v small in
+    ap (bitOr v) (ap (λ (x : ℕ). x * 2 ^ 16 % 2 ^ 32) all ∙ shl-exact 6 16 32 (checks-lt v small) (lit≤ tt)) ∙ above v small
 
 pub code-spec : {M : Type 1} → statement M
 code-spec =
     tie.close
     (tie.spec
-    with-check-requires
-    with-check-requires-2
-    with-check-requires-3
-    with-check-requires-4
-    with-check-requires-5
-    with-check-requires-6
+    (λ c κs. search needs)
+    (λ c. search needs)
+    (λ c κs. search needs)
+    (λ c κs. search needs)
+    (λ c. search needs)
+    (λ c κs. search needs)
     returns)
