@@ -1,14 +1,14 @@
 -- The syndrome of some bits, and that reading by it finds what the definition by distance finds.
 -- Assumes nothing.
-use mathlib.Core.Path.{_≡_, refl, sym, ap, ap₂, _∙_, subst}
+use mathlib.Core.Path.{_≡_, refl, sym, ap, ap₂, _∙_}
 use mathlib.Core.Bool.{Bool, true, false}
 use mathlib.Core.List.{List, [], _∷_}
 use Prim.Native.Nat.{ℕ, zero, suc, _+_, _*_, _/_, _%_, _^_, _≤_, _<_, suc-le-suc}
-use native.Mathlib.Nat.{mod-lt, mod-eq-of-lt, le-refl, le-of-lt}
-use borrow.Author.Tests.{eqb-true, eqb-false, eq-eqb, ne-eqb, lt-ltb, le-ltb}
+use native.Mathlib.Nat.{mod-lt, mod-eq-of-lt, le-refl, le-of-lt, le-of-suc-le-suc}
+use borrow.Author.Tests.{eqb-true, eqb-false, eq-eqb, ne-eqb, lt-ltb}
 use lib.Bits.{bitXor, xor-self, xor-zero-r, xor-comm, xor-mod, xor-shr, xor-lt}
 use lib.Count.{onesIn}
-use lib.Dec.{eqb, ltb, eqb→eq}
+use lib.Dec.{T, eqb, ltb, eqb→eq, ltb→lt}
 use lib.ListN.{getD}
 use lib.Pow.{split, pow-pos, shr-lt}
 use Rattle.row.specs.Answers.{refused, found}
@@ -18,7 +18,7 @@ use Rattle.row.specs.Reading.{upright, dataOf, isCode, flippedAt, repair
 use Rattle.row.specs.declared.answer.Answer.{Answer}
 use Rattle.row.specs.declared.answer.Condition.the-variants.{Clean, Repaired}
 use Rattle.row.proofs.Codes.{code-linear, code-data, code-lt}
-use Rattle.row.proofs.Digits.{at-below}
+use Rattle.row.proofs.Digits.{at-below, NoneOf}
 use Rattle.row.proofs.Places.{xor-assoc}
 
 -- ---- exclusive or cancels
@@ -133,18 +133,29 @@ decoded-by-syndrome bits = rw (is-code bits, repaired-by-place 22 bits (le-refl 
 
 -- ---- the code's table of places
 
--- the place that each syndrome names, or 22
-unfoldable pub places : List ℕ
-places =
-    22 ∷ 16 ∷ 17 ∷ 22 ∷ 18 ∷ 22 ∷ 22 ∷ 3 ∷ 19 ∷ 22 ∷ 22 ∷ 6 ∷ 22 ∷ 8 ∷ 9 ∷ 22
-    ∷ 20 ∷ 22 ∷ 22 ∷ 13 ∷ 22 ∷ 15 ∷ 22 ∷ 22 ∷ 22 ∷ 22 ∷ 22 ∷ 22 ∷ 22 ∷ 22 ∷ 22 ∷ 22
-    ∷ 21 ∷ 22 ∷ 22 ∷ 0 ∷ 22 ∷ 1 ∷ 2 ∷ 22 ∷ 22 ∷ 4 ∷ 5 ∷ 22 ∷ 7 ∷ 22 ∷ 22 ∷ 10
-    ∷ 22 ∷ 11 ∷ 12 ∷ 22 ∷ 14 ∷ 22 ∷ 22 ∷ 22 ∷ 22 ∷ 22 ∷ 22 ∷ 22 ∷ 22 ∷ 22 ∷ 22 ∷ 22 ∷ []
+-- a syndrome that is that of none of the first places
+abbrev pub Missed : ℕ → ℕ → Type 0
+Missed = NoneOf (λ place. getD columns place 0)
 
-named : (s : ℕ) → s < 64 → getD places s 0 ≡ placeBelow 22 s
-unfolding places columns placeBelow
-named s h =
-    eqb→eq (getD places s 0) (placeBelow 22 s) (at-below 64 (λ k. eqb (getD places k 0) (placeBelow 22 k)) tt s h)
+none-named : (places s : ℕ) → Missed places s → placeBelow places s ≡ 22
+unfolding placeBelow
+none-named zero s missed = refl
+none-named (suc place) s missed = rw (ne-eqb s (getD columns place 0) (missed .1)) (none-named place s (missed .0))
+
+-- a syndrome that names a place
+abbrev pub Named : ℕ → ℕ → Type 0
+Named s place = (placeBelow 22 s ≡ place) × (place ≤ 21)
+
+column-names : (place : ℕ) → place < 22 → placeBelow 22 (getD columns place 0) ≡ place
+unfolding columns placeBelow
+column-names place h =
+    eqb→eq (placeBelow 22 (getD columns place 0)) place
+    (at-below 22 (λ k. eqb (placeBelow 22 (getD columns k 0)) k) tt place h)
+
+pub named : {s place : ℕ} (k : ℕ) → T (ltb k 22) → s ≡ getD columns k 0 → place ≡ k → Named s place
+named {s} {place} k below key is =
+    let low : k < 22 = ltb→lt k 22 below in
+    (ap (placeBelow 22) key ∙ column-names k low ∙ sym is, le-of-suc-le-suc (rw is low))
 
 -- what the code reads: some bits, the code of their data, and the syndrome that it works out from the two
 module _ (bits coded : ℕ) (right : coded ≡ code (bits % 2 ^ 16)) (small : bits < 2 ^ 22) where
@@ -154,26 +165,22 @@ module _ (bits coded : ℕ) (right : coded ≡ code (bits % 2 ^ 16)) (small : bi
       rw right
       (mod-eq-of-lt (shr-lt 6 16 (xor-lt 22 bits (code (bits % 2 ^ 16)) small (code-lt (bits % 2 ^ 16) (data-lt bits)))))
 
-  below-64 : syndrome bits < 64
-  below-64 = subst (λ (s : ℕ). s < 64) worked-out (mod-lt (bitXor bits coded / 2 ^ 16) (pow-pos 6))
-
   pub read-clean : bitXor bits coded / 2 ^ 16 % 64 ≡ 0 → decoded bits ≡ found (bits % 2 ^ 16) Clean
   read-clean none = decoded-by-syndrome bits ∙ rw (eq-eqb (syndrome bits) 0 (sym worked-out ∙ none))
 
   read-damaged : (bitXor bits coded / 2 ^ 16 % 64 ≡ 0 → ⊥)
-      → decoded bits ≡ repairedAt (getD places (bitXor bits coded / 2 ^ 16 % 64) 0) bits
+      → decoded bits ≡ repairedAt (placeBelow 22 (bitXor bits coded / 2 ^ 16 % 64)) bits
   read-damaged some =
       decoded-by-syndrome bits ∙ rw (ne-eqb (syndrome bits) 0 (λ e. some (worked-out ∙ e)))
-      (sym (ap (λ (p : ℕ). repairedAt p bits) (ap (λ (s : ℕ). getD places s 0) worked-out ∙ named (syndrome bits) below-64)))
+      (sym (ap (λ (s : ℕ). repairedAt (placeBelow 22 s) bits) worked-out))
 
-  pub read-refused : (bitXor bits coded / 2 ^ 16 % 64 ≡ 0 → ⊥) → 21 < getD places (bitXor bits coded / 2 ^ 16 % 64) 0
-      → decoded bits ≡ refused 8
-  read-refused some past = read-damaged some ∙ rw (le-ltb (getD places (bitXor bits coded / 2 ^ 16 % 64) 0) 22 past)
+  pub read-refused : (bitXor bits coded / 2 ^ 16 % 64 ≡ 0 → ⊥) → Missed 22 (bitXor bits coded / 2 ^ 16 % 64) → decoded bits ≡ refused 8
+  read-refused some missed = read-damaged some ∙ rw (none-named 22 (bitXor bits coded / 2 ^ 16 % 64) missed)
 
-  pub read-repaired : (place : ℕ) → (bitXor bits coded / 2 ^ 16 % 64 ≡ 0 → ⊥) → getD places (bitXor bits coded / 2 ^ 16 % 64) 0 ≡ place
-      → place ≤ 21 → decoded bits ≡ found (bitXor bits (2 ^ place) % 2 ^ 16) (Repaired place)
-  read-repaired place some names low =
-      read-damaged some ∙ ap (λ (p : ℕ). repairedAt p bits) names ∙ rw (lt-ltb place 22 (suc-le-suc low))
+  pub read-repaired : (place : ℕ) → (bitXor bits coded / 2 ^ 16 % 64 ≡ 0 → ⊥) → Named (bitXor bits coded / 2 ^ 16 % 64) place
+      → decoded bits ≡ found (bitXor bits (2 ^ place) % 2 ^ 16) (Repaired place)
+  read-repaired place some names =
+      read-damaged some ∙ ap (λ (p : ℕ). repairedAt p bits) (names .0) ∙ rw (lt-ltb place 22 (suc-le-suc (names .1)))
 
 -- ---- a value that is read has 16 bits
 

@@ -9,74 +9,6 @@ use crate::answer::refused;
 use crate::coding::code;
 use crate::coding::flipped;
 
-// For each syndrome (the check bits that differ from those of the data) the one place whose flip makes it, or 22 where none does.
-const PLACES: [u32; 64] = [
-    22,
-    16,
-    17,
-    22,
-    18,
-    22,
-    22,
-    3,
-    19,
-    22,
-    22,
-    6,
-    22,
-    8,
-    9,
-    22,
-    20,
-    22,
-    22,
-    13,
-    22,
-    15,
-    22,
-    22,
-    22,
-    22,
-    22,
-    22,
-    22,
-    22,
-    22,
-    22,
-    21,
-    22,
-    22,
-    0,
-    22,
-    1,
-    2,
-    22,
-    22,
-    4,
-    5,
-    22,
-    7,
-    22,
-    22,
-    10,
-    22,
-    11,
-    12,
-    22,
-    14,
-    22,
-    22,
-    22,
-    22,
-    22,
-    22,
-    22,
-    22,
-    22,
-    22,
-    22,
-];
-
 // The row with its polarity taken off.
 fn upright(row: u32) -> u32
     ensures { λ r. ⌜ r ≡ spec.upright row ⌝ }
@@ -87,7 +19,8 @@ fn upright(row: u32) -> u32
     row
 }
 
-// What bits 21:0 hold: the value whose code differs from them in at most one place.
+// What bits 21:0 hold: the value whose code differs from them in at most one place. The syndrome, which is where the check bits differ from
+// those of the data, names that place: the flip of each of the 22 makes another.
 fn decoded(bits: u32) -> Answer
     ensures { λ r. ⌜ r ≡ spec.decoded (bits % 2 ^ 22) ⌝ }
 {
@@ -97,10 +30,31 @@ fn decoded(bits: u32) -> Answer
     if syndrome == 0 {
         return found(value, Condition::Clean);
     }
-    let place = PLACES[syndrome as usize];
-    if 21 < place {
-        return refused(8);
-    }
+    let place = match syndrome {
+        0x23 => 0,
+        0x25 => 1,
+        0x26 => 2,
+        0x07 => 3,
+        0x29 => 4,
+        0x2a => 5,
+        0x0b => 6,
+        0x2c => 7,
+        0x0d => 8,
+        0x0e => 9,
+        0x2f => 10,
+        0x31 => 11,
+        0x32 => 12,
+        0x13 => 13,
+        0x34 => 14,
+        0x15 => 15,
+        0x01 => 16,
+        0x02 => 17,
+        0x04 => 18,
+        0x08 => 19,
+        0x10 => 20,
+        0x20 => 21,
+        _ => return refused(8),
+    };
     found((own ^ (1 << place)) % 65536, Condition::Repaired(place))
 }
 
