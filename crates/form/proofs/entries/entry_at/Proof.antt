@@ -1,44 +1,26 @@
--- `form::entries::entry_at` meets its contract, part by part.
+-- `form::entries::entry_at` meets its contract: an entry that ends within the job is whole.
 -- Assumes nothing.
 use borrow.Author.Needs.{needs}
-use Rattle.form.specs.Entries.{entryAt}
+use denote.Ref.{now}
+use Prim.Native.Nat.{_+_, _*_, _≤_}
+use lib.ListN.{length}
 use Rattle.form.proofs.entries.entry_at.Statement.{statement}
 use Rattle.form.proofs.entries.entry_at.Tie as tie
 
-mul-at : tie.Need-mul-at
-mul-at c = search needs
-
-add-at : tie.Need-add-at
-add-at c = search needs
-
-two-at-requires : tie.Need-two-at-requires
-two-at-requires c κs = search needs
-
-add-byte-at : tie.Need-add-byte-at
-add-byte-at c = search needs
-
-byte-at-requires : tie.Need-byte-at-requires
-byte-at-requires c κs = search needs
-
-add-three-at : tie.Need-add-three-at
-add-three-at c = search needs
-
-three-at-requires : tie.Need-three-at-requires
-three-at-requires c κs = search needs
-
-returns : tie.Need-returns
-unfolding entryAt
-returns c = simp (c .three-at .ensures, c .before .byte-at .ensures .0, c .before .before .two-at .ensures .0)
+whole-entry-requires : tie.Need-whole-entry-requires
+whole-entry-requires c κs =
+    let a = c .before .before .args in
+    let whole : 7 + 6 * a .i + 6 ≤ length (now (a .job)) = c .if1 .taken in
+    whole
 
 pub entry-at-spec : {M : Type 1} → statement M
 entry-at-spec =
     tie.close
     (tie.spec
-    mul-at
-    add-at
-    two-at-requires
-    add-byte-at
-    byte-at-requires
-    add-three-at
-    three-at-requires
-    returns)
+    (λ c. search needs)
+    (λ c. search needs)
+    (λ c. search needs)
+    whole-entry-requires
+    (λ c. search needs)
+    (λ c κs. search needs)
+    (λ c. search needs))
