@@ -19,8 +19,9 @@ type Plain = fn(&mut Work);
 /// A call: its name, how often it can be made on one work, what it needs of the work, and its two sides.
 struct Timed(&'static str, u32, fn(&mut Work), Library, Plain);
 
-const CALLS: [Timed; 13] = [
+const CALLS: [Timed; 14] = [
     Timed("reset", MANY, as_it_is, work_reset, reset),
+    Timed("reset with six keys", MANY, burn_worn_keys, work_reset, reset),
     Timed("read raw", MANY, as_it_is, work_read_raw, read_raw),
     Timed("read ECC", MANY, as_it_is, work_read_ecc, read_ecc),
     Timed("read ECC behind a key", MANY, keyed_row, work_read_ecc, read_ecc),

@@ -9,6 +9,9 @@ const JOB: usize = 7 + 6 * ENTRIES;
 const KEYED_PAGE: usize = 20;
 /// A row of that page that the job burns.
 pub const KEYED_ROW: u32 = 1281;
+const FIRST_KEY_ROW: usize = 0xf48;
+const FIRST_VALID_ROW: usize = 0xf79;
+const VOTED_1: u32 = 0x010101;
 
 /// All that a call takes, and what it answered: the same as `work` in compare/work.c.
 #[repr(C, align(8))]
@@ -90,12 +93,21 @@ pub fn board() -> Work {
         answer: Answer::default(),
     };
     for (i, bytes) in work.key.chunks_exact(2).enumerate() {
-        work.rows[0xf48 + i] = row::code(u16::from_le_bytes([bytes[0], bytes[1]]));
+        work.rows[FIRST_KEY_ROW + i] = row::code(u16::from_le_bytes([bytes[0], bytes[1]]));
     }
-    work.rows[0xf79] = 0x010101;
-    work.rows[0xf80 + 2 * KEYED_PAGE] = 0x010101;
+    work.rows[FIRST_VALID_ROW] = VOTED_1;
+    work.rows[0xf80 + 2 * KEYED_PAGE] = VOTED_1;
     reset(&mut work);
     enter_key(&mut work);
     run_job(&mut work);
     work
+}
+
+/// Six keys, valid and whole, with the lowest set bit of each of their rows worn away.
+pub fn burn_worn_keys(work: &mut Work) {
+    for i in 0..48 {
+        let burnt = row::code(0x1234 + i as u16);
+        work.rows[FIRST_KEY_ROW + i] = burnt & (burnt - 1);
+    }
+    work.rows[FIRST_VALID_ROW..FIRST_VALID_ROW + 6].fill(VOTED_1);
 }
