@@ -1,7 +1,7 @@
 //! Makes each call on both sides and compares everything that comes back: the answer, the state, every row.
 
 use crate::call::{Call, Chip};
-use crate::locks::owner;
+use crate::locks::{key_page, owner};
 use crate::shape::{Answer, State, ROWS};
 use crate::tally::Tally;
 
@@ -80,17 +80,17 @@ impl<'a> Bench<'a> {
         Some(format!("rows[{row:#05x}]: library {theirs:#08x}, model {ours:#08x}"))
     }
 
-    /// What a row held before the call, and how its page stood.
+    /// What a row held before the call, and how the page of its levels and the page of its keys stood.
     fn setting(&self, row: u32) -> String {
         if row as usize >= ROWS {
             return String::new();
         }
-        let page = owner(row);
+        let (page, from) = (owner(row), key_page(None, row));
         let state = &self.state;
         let (secure, nonsecure) = (state.secure[page], state.nonsecure[page]);
-        let (write, read, nokey) = (state.writekey[page], state.readkey[page], state.nokey[page]);
+        let (write, read, nokey) = (state.writekey[from], state.readkey[from], state.nokey[from]);
         format!(
-            " (the row held {:#08x}; page {page}: levels {secure} {nonsecure}, keys {write} {read}, no-key {nokey})",
+            " (the row held {:#08x}; page {page}: levels {secure} {nonsecure}; page {from}: keys {write} {read}, no-key {nokey})",
             self.theirs[row as usize]
         )
     }

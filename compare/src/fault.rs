@@ -28,7 +28,10 @@ faults! {
     ZeroKey           "zero-key"            "an all-zero entered key may match";
     PartialKey        "partial-key"         "a key that did not decode may match";
     IndexWraps        "index-wraps"         "a key index above 7 loses its high bits";
-    LockRowPage       "lock-row-page"       "a lock row's key level comes from its row divided by 64";
+    LockRowOwnWord    "lock-row-own-word"   "a lock row's key level comes from its own lock word";
+    LockPagesSwapped  "lock-pages-swapped"  "lock words 0 to 31 take page 63's keys, 32 to 63 take page 62's";
+    LockBorder        "lock-border"         "lock word 31 takes page 63's keys";
+    LockRowLevels     "lock-row-levels"     "a lock row's levels come from page 62 or 63 too";
     LockRowsHidden    "lock-rows-hidden"    "lock rows are read under the levels";
     LevelWraps        "level-wraps"         "a level above 2 loses its high bits";
     AdvanceLowers     "advance-lowers"      "advancing sets the asked level even where it is lower";

@@ -4,12 +4,26 @@ use crate::fault::Fault;
 use crate::row::bit;
 use crate::shape::{State, LOCK_ROWS, SECURE};
 
-/// The page whose lock word guards a row. Lock words guard themselves.
+/// The page whose lock levels guard a row. Lock words guard themselves.
 pub fn owner(row: u32) -> usize {
     if row < LOCK_ROWS {
         (row / 64) as usize
     } else {
         ((row - LOCK_ROWS) / 2) as usize
+    }
+}
+
+/// The page whose key indexes and no-key state a row takes: lock words 0 to 31 take page 62's, 32 to 63 take page 63's, and
+/// data pages keep their own (request 2026-02).
+pub fn key_page(fault: Option<Fault>, row: u32) -> usize {
+    let page = owner(row);
+    if row < LOCK_ROWS || fault == Some(Fault::LockRowOwnWord) {
+        return page;
+    }
+    let last_of_62 = if fault == Some(Fault::LockBorder) { 30 } else { 31 };
+    match (page <= last_of_62) ^ (fault == Some(Fault::LockPagesSwapped)) {
+        true => 62,
+        false => 63,
     }
 }
 

@@ -1,16 +1,13 @@
-//! Permission: who may read a row and who may write it, by the levels of its page and the keys registered there.
+//! Permission: who may read a row and who may write it, by the levels of its page and the keys that it takes.
 
 use crate::fault::Fault;
 use crate::keys::key_level;
-use crate::locks::{level, owner};
+use crate::locks::{key_page, level, owner};
 use crate::shape::{State, LOCK_ROWS, NONSECURE, SECURE};
 
-/// The key level of a row's page, or of a lock row's own lock word.
+/// The key level of a row: that of the page whose keys it takes.
 fn key_level_of_row(fault: Option<Fault>, state: &State, row: u32) -> u32 {
-    if fault == Some(Fault::LockRowPage) {
-        return key_level(fault, state, (row / 64) as usize);
-    }
-    key_level(fault, state, owner(row))
+    key_level(fault, state, key_page(fault, row))
 }
 
 /// Whether the caller may read the row.
@@ -24,7 +21,10 @@ pub fn may_read(fault: Option<Fault>, state: &State, caller: u32, row: u32) -> b
 
 /// Whether the row may be written for the caller.
 pub fn may_write(fault: Option<Fault>, state: &State, caller: u32, row: u32) -> bool {
-    let page = owner(row);
+    let page = match fault {
+        Some(Fault::LockRowLevels) => key_page(fault, row),
+        _ => owner(row),
+    };
     let secure = level(fault, state, SECURE, page);
     let nonsecure = level(fault, state, NONSECURE, page);
     let key = key_level_of_row(fault, state, row);

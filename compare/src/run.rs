@@ -6,7 +6,7 @@ use crate::call::{Call, Chip};
 use crate::code::Codes;
 use crate::images::{too_large, Image};
 use crate::jobfiles;
-use crate::locks::owner;
+use crate::locks::{key_page, owner};
 use crate::random::Random;
 use crate::sequences;
 use crate::shape::{State, ROWS};
@@ -64,7 +64,7 @@ fn episode(
     Ok(())
 }
 
-/// Before a call that names rows: now and then other entries in them, and other settings of their page.
+/// Before a call that names rows: now and then other entries in them, and other settings of a page that one goes by.
 fn stir(random: &mut Random, bench: &mut Bench, image: &Image, codes: &Codes, natural: bool, first: u32, count: u32) {
     if first >= ROWS as u32 {
         return;
@@ -80,7 +80,8 @@ fn stir(random: &mut Random, bench: &mut Bench, image: &Image, codes: &Codes, na
         bench.put(row, too_large(random));
     }
     if !natural && random.once_in(3) && row < ROWS as u32 {
-        states::change_page(random, image, &mut bench.state, owner(row));
+        let page = random.pick(&[owner(row), key_page(None, row)]);
+        states::change_page(random, image, &mut bench.state, page);
     }
 }
 

@@ -52,12 +52,17 @@ fn latched(rows: &[u32]) -> Result<State, Refusal> {
     Ok(state)
 }
 
-/// The page or the lock word that a row goes by.
+/// The page or the lock word whose levels a row goes by.
 fn owner(row: u32) -> usize {
     match row < LOCK_ROWS {
         true => (row / 64) as usize,
         false => ((row - LOCK_ROWS) / 2) as usize,
     }
+}
+
+/// The page whose keys a row goes by.
+fn key_page(row: u32) -> usize {
+    (row / 64) as usize
 }
 
 fn level(state: &State, domain: u32, page: usize) -> u8 {
@@ -94,15 +99,14 @@ pub fn hidden(state: &State, row: u32) -> bool {
 }
 
 pub fn may_read(state: &State, caller: u32, row: u32) -> bool {
-    let page = owner(row);
-    row >= LOCK_ROWS || level(state, caller, page).max(key_level(state, page)) <= 1
+    row >= LOCK_ROWS || level(state, caller, owner(row)).max(key_level(state, key_page(row))) <= 1
 }
 
 pub fn may_write(state: &State, caller: u32, row: u32) -> bool {
     let page = owner(row);
     level(state, SECURE, page) == 0
         && (caller == SECURE || level(state, NONSECURE, page) == 0)
-        && key_level(state, page) == 0
+        && key_level(state, key_page(row)) == 0
 }
 
 pub fn advance(state: &mut State, caller: u32, domain: u32, page: u32, asked: u32) -> Answer {

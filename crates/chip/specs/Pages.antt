@@ -19,9 +19,13 @@ highLockRow page = 0xf81 + 2 * page
 abbrev pub isLockRow : ℕ → Bool
 isLockRow row = leb 0xf80 row
 
--- the page that a row goes by: a lock row belongs to the lock word that it is in; past row 4,095 there is no page, which is said as 64
+-- the page whose levels a row goes by: a lock row belongs to the lock word that it is in; past row 4,095 there is no page, which is said as 64
 abbrev pub owner : ℕ → ℕ
 owner row =
     if ltb 4095 row then 64
     else if isLockRow row then (row - 0xf80) / 2
     else row / 64
+
+-- the page whose key settings a row goes by: the chip divides by 64 for lock rows too, so that theirs are page 62's or 63's (erratum E28)
+abbrev pub keyPage : ℕ → ℕ
+keyPage row = if ltb 4095 row then 64 else row / 64

@@ -4,13 +4,13 @@ use mathlib.Core.Bool.{Bool, _&&_, _||_}
 use lib.Dec.{eqb, leb}
 use Rattle.row.specs.Choice.{if_then_else_}
 use Rattle.chip.specs.Keys.{keyLevel}
-use Rattle.chip.specs.Pages.{isLockRow, owner}
+use Rattle.chip.specs.Pages.{isLockRow, owner, keyPage}
 use Rattle.chip.specs.States.{countedLevel}
 use Rattle.chip.specs.declared.state.State.{State}
 
--- the key level of a row: that of the page that it goes by, so that of a lock row is worked out from its own lock word
+-- the key level of a row: that of the page whose key settings it goes by
 abbrev pub rowKeyLevel : State → ℕ → ℕ
-rowKeyLevel state row = keyLevel state (owner row)
+rowKeyLevel state row = keyLevel state (keyPage row)
 
 -- the caller's level at a row: Secure is caller 0, Non-secure caller 1
 abbrev pub callerLevel : State → ℕ → ℕ → ℕ
@@ -26,6 +26,6 @@ unfoldable pub mayWrite : State → ℕ → ℕ → Bool
 mayWrite state caller row =
     eqb (callerLevel state caller row) 0 && eqb (countedLevel (state .secure) (owner row)) 0 && eqb (rowKeyLevel state row) 0
 
--- two rows that one page's levels and key settings decide
+-- two rows that the same levels and the same key settings decide
 abbrev pub sharePermission : ℕ → ℕ → Bool
-sharePermission a b = eqb (owner a) (owner b)
+sharePermission a b = eqb (owner a) (owner b) && eqb (keyPage a) (keyPage b)

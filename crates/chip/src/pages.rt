@@ -56,7 +56,7 @@ impl Page {
         Page::FIRST_LOCK_ROW + 1 + 2 * (self.number as u32)
     }
 
-    // The page that a row goes by.
+    // The page whose levels a row goes by.
     pub fn owner(row: u32) -> Page
         ensures { λ r. ⌜ r .number ≡ spec.owner row ⌝ }
     {
@@ -67,6 +67,18 @@ impl Page {
             return Page {
                 number: ((row - Page::FIRST_LOCK_ROW) / 2) as u8,
             };
+        }
+        Page {
+            number: (row / Page::ROWS) as u8,
+        }
+    }
+
+    // The page whose key settings a row goes by.
+    pub fn key_page(row: u32) -> Page
+        ensures { λ r. ⌜ r .number ≡ spec.keyPage row ⌝ }
+    {
+        if Page::LAST_ROW < row {
+            return Page { number: 64 };
         }
         Page {
             number: (row / Page::ROWS) as u8,

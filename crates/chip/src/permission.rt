@@ -6,11 +6,11 @@ use crate::pages::Page;
 use crate::state::State;
 use crate::state::counted_level;
 
-// The key level of a row: that of the page that it goes by.
+// The key level of a row: that of the page whose key settings it goes by.
 pub fn row_key_level(state: State, row: u32) -> u32
     ensures { λ r. ⌜ r ≡ spec.rowKeyLevel state row ⌝ }
 {
-    key_level(state, Page::owner(row))
+    key_level(state, Page::key_page(row))
 }
 
 // The caller's level at a row.
@@ -51,11 +51,13 @@ pub fn may_write(state: State, caller: u32, row: u32) -> bool
     row_key_level(state, row) == 0
 }
 
-// Whether one page's levels and key settings decide both rows: who may write one may then write the other.
+// Whether the same levels and the same key settings decide both rows: who may write one may then write the other.
 pub fn share_permission(a: u32, b: u32) -> bool
     ensures { λ r. ⌜ r ≡ spec.sharePermission a b ⌝ }
 {
     let owner_of_a = Page::owner(a);
     let owner_of_b = Page::owner(b);
-    owner_of_a.number == owner_of_b.number
+    let key_page_of_a = Page::key_page(a);
+    let key_page_of_b = Page::key_page(b);
+    owner_of_a.number == owner_of_b.number && key_page_of_a.number == key_page_of_b.number
 }

@@ -4,7 +4,7 @@ use mathlib.Core.List.{List, [], _∷_}
 use mathlib.Core.Path.{_≡_, refl}
 use Prim.Native.Nat.{ℕ, _+_}
 use Rattle.chip.specs.Keys.{matches, keyLevel}
-use Rattle.chip.specs.Pages.{owner}
+use Rattle.chip.specs.Pages.{keyPage}
 use Rattle.chip.specs.Permission.{mayWrite}
 use Rattle.chip.specs.declared.state.State.{State}
 use Rattle.form.specs.Entries.{entriesOf}
@@ -31,7 +31,7 @@ same-level s page = rw (s .writekey, s .readkey, s .nokey, s .keys, s .entered)
 
 pub locks-agree : {a b : State} → SameLocks a b → (caller : ℕ) → AgreeToWrite caller a b
 unfolding mayWrite
-locks-agree s caller row = rw (same-level s (owner row), s .secure, s .nonsecure)
+locks-agree s caller row = rw (same-level s (keyPage row), s .secure, s .nonsecure)
 
 module _ (rows : List ℕ) (a b : State) (agree : AgreeToWrite 0 a b) where
   same-rungs : (i : ℕ) (es : List Entry) → allRungs rows a i es ≡ allRungs rows b i es

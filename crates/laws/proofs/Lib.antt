@@ -5,6 +5,7 @@ pub mod Writes
 pub mod Votes
 pub mod Numbers
 pub mod Permits
+pub mod LockRows
 pub mod Refusals
 pub mod Burning
 pub mod Locking

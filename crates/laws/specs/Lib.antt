@@ -5,5 +5,6 @@ pub mod Worked
 pub mod Calls
 pub mod Numbers
 pub mod Promises
+pub mod LockRows
 pub mod Cuts
 pub mod Jobs

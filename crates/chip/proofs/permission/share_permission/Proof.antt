@@ -1,6 +1,7 @@
--- `chip::permission::share_permission` meets its contract, by that of `owner`.
+-- `chip::permission::share_permission` meets its contract, by those of `owner` and `key_page`.
 -- Assumes nothing.
 use borrow.Author.Needs.{needs}
+use borrow.Author.Tests.{eq-eqb, ne-eqb}
 use Rattle.chip.proofs.permission.share_permission.Statement.{statement}
 use Rattle.chip.proofs.permission.share_permission.Tie as tie
 
@@ -10,8 +11,29 @@ owner-requires c κs = search needs
 owner-requires-2 : tie.Need-owner-requires-2
 owner-requires-2 c κs = search needs
 
+key-page-requires : tie.Need-key-page-requires
+key-page-requires c κs = search needs
+
+key-page-requires-2 : tie.Need-key-page-requires-2
+key-page-requires-2 c κs = search needs
+
 returns : tie.Need-returns
-returns c = rw (← c .before .before .before .owner .ensures, ← c .before .before .owner2 .ensures)
+returns c =
+    let pages = c .before .before .before .before .before in
+    rw (← pages .before .before .before .owner .ensures, ← pages .before .before .owner2 .ensures, eq-eqb _ _ (c .before .before .if1 .taken), ← pages .before .key-page .ensures, ← pages .key-page2 .ensures)
+
+returns-2 : tie.Need-returns-2
+returns-2 c =
+    let owners = c .before .before .before .before .before in
+    rw (← owners .before .owner .ensures, ← owners .owner2 .ensures, ne-eqb _ _ (c .if1 .left))
 
 pub share-permission-spec : {M : Type 1} → statement M
-share-permission-spec = tie.close (tie.spec owner-requires owner-requires-2 returns)
+share-permission-spec =
+    tie.close
+    (tie.spec
+    owner-requires
+    owner-requires-2
+    key-page-requires
+    key-page-requires-2
+    returns
+    returns-2)
