@@ -51,10 +51,16 @@ pub fn may_write(state: State, caller: u32, row: u32) -> bool
     row_key_level(state, row) == 0
 }
 
-// Whether the same levels and the same key settings decide both rows: who may write one may then write the other.
+// Whether the same levels and the same key settings decide both rows: who may write one may then write the other. A job asks it of
+// each entry, and of data rows one page says all.
 pub fn share_permission(a: u32, b: u32) -> bool
     ensures { λ r. ⌜ r ≡ spec.sharePermission a b ⌝ }
 {
+    if a < Page::FIRST_LOCK_ROW {
+        if b < Page::FIRST_LOCK_ROW {
+            return a / Page::ROWS == b / Page::ROWS;
+        }
+    }
     let owner_of_a = Page::owner(a);
     let owner_of_b = Page::owner(b);
     let key_page_of_a = Page::key_page(a);

@@ -1,9 +1,14 @@
--- `chip::permission::share_permission` meets its contract, by those of `owner` and `key_page`.
+-- `chip::permission::share_permission` meets its contract: of data rows by their one page, of others by `owner` and `key_page`.
 -- Assumes nothing.
 use borrow.Author.Needs.{needs}
+use mathlib.Core.Path.{sym}
 use borrow.Author.Tests.{eq-eqb, ne-eqb}
+use Rattle.chip.proofs.Sharing.{share-data}
 use Rattle.chip.proofs.permission.share_permission.Statement.{statement}
 use Rattle.chip.proofs.permission.share_permission.Tie as tie
+
+returns : tie.Need-returns
+returns c = sym (share-data _ _ (c .before .if1 .taken) (c .if2 .taken))
 
 owner-requires : tie.Need-owner-requires
 owner-requires c κs = search needs
@@ -17,23 +22,24 @@ key-page-requires c κs = search needs
 key-page-requires-2 : tie.Need-key-page-requires-2
 key-page-requires-2 c κs = search needs
 
-returns : tie.Need-returns
-returns c =
-    let pages = c .before .before .before .before .before in
-    rw (← pages .before .before .before .owner .ensures, ← pages .before .before .owner2 .ensures, eq-eqb _ _ (c .before .before .if1 .taken), ← pages .before .key-page .ensures, ← pages .key-page2 .ensures)
-
 returns-2 : tie.Need-returns-2
 returns-2 c =
+    let pages = c .before .before .before .before .before in
+    rw (← pages .before .before .before .owner .ensures, ← pages .before .before .owner2 .ensures, eq-eqb _ _ (c .before .before .if3 .taken), ← pages .before .key-page .ensures, ← pages .key-page2 .ensures)
+
+returns-3 : tie.Need-returns-3
+returns-3 c =
     let owners = c .before .before .before .before .before in
-    rw (← owners .before .owner .ensures, ← owners .owner2 .ensures, ne-eqb _ _ (c .if1 .left))
+    rw (← owners .before .owner .ensures, ← owners .owner2 .ensures, ne-eqb _ _ (c .if3 .left))
 
 pub share-permission-spec : {M : Type 1} → statement M
 share-permission-spec =
     tie.close
     (tie.spec
+    returns
     owner-requires
     owner-requires-2
     key-page-requires
     key-page-requires-2
-    returns
-    returns-2)
+    returns-2
+    returns-3)
