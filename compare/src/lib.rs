@@ -40,6 +40,7 @@ pub mod bench;
 pub mod every;
 pub mod images;
 pub mod jobfiles;
+pub mod lock_rows;
 pub mod random;
 pub mod run;
 pub mod sequences;

@@ -4,6 +4,7 @@
 //!     compare [CALLS] [SEED] --fault NAME     the same with one fault in the model
 //!     compare [CALLS] [SEED] --faults         each fault in turn: after how many calls is it found?
 //!     compare --every-row                     every row value read with ECC, every value written over near-blank rows
+//!     compare --lock-rows                     every lock row written, by the keys and levels of its word and of pages 62 and 63
 //!
 //! The command of the driver, its words parted by spaces, stands in OTP_DRIVER, or as the first argument of all.
 //!
@@ -16,6 +17,7 @@ use compare::bench::{Bench, Difference};
 use compare::every::every_row;
 use compare::face::{self, Library};
 use compare::fault::{named, Fault, FAULTS};
+use compare::lock_rows::every_lock_row;
 use compare::model::Model;
 use compare::run::run;
 
@@ -26,6 +28,7 @@ struct Wish {
     fault: Option<Fault>,
     faults: bool,
     every_row: bool,
+    lock_rows: bool,
 }
 
 /// Reads the command line.
@@ -37,6 +40,7 @@ fn wish() -> Result<Wish, String> {
         fault: None,
         faults: false,
         every_row: false,
+        lock_rows: false,
     };
     let mut numbers = Vec::new();
     let mut words = std::env::args().skip(1).peekable();
@@ -49,6 +53,7 @@ fn wish() -> Result<Wish, String> {
             }
             "--faults" => wish.faults = true,
             "--every-row" => wish.every_row = true,
+            "--lock-rows" => wish.lock_rows = true,
             _ => numbers.push(word.parse::<u64>().map_err(|_| format!("not understood: '{word}'"))?),
         }
     }
@@ -103,6 +108,14 @@ fn every(wish: &Wish, library: &Library, sound: &Model) -> Result<(), String> {
     Ok(())
 }
 
+fn lock_rows(wish: &Wish, library: &Library, sound: &Model) -> Result<(), String> {
+    let model = wish.fault.map_or(sound.clone(), Model::faulty);
+    let mut bench = Bench::new(library, &model);
+    every_lock_row(&mut bench).map_err(|Difference(line)| line)?;
+    println!("{} calls compared, 0 differ", bench.tally.calls);
+    Ok(())
+}
+
 /// What is asked for, and the library to do it with.
 fn begin() -> Result<(Wish, Library), String> {
     let wish = wish()?;
@@ -124,6 +137,8 @@ fn main() -> ExitCode {
         faults(&wish, &library, &sound)
     } else if wish.every_row {
         every(&wish, &library, &sound)
+    } else if wish.lock_rows {
+        lock_rows(&wish, &library, &sound)
     } else {
         compare(&wish, &library, &sound)
     };
