@@ -15,6 +15,9 @@ fn on_an_image() {
     print::line(
         b"    Reads a row with ECC, as it is, or by a vote of it and the rows that follow it.",
     );
+    print::line(
+        b"    Says whose row it is, who may use it, and of a lock row whose key settings count.",
+    );
     print::line(b"./otp pages IMAGE [--key HEX32]");
     print::line(
         b"    The 64 pages: levels, key indexes, no-key state, bits burnt, who may read and write.",

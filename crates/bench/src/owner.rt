@@ -1,4 +1,5 @@
-// Whose row a row is: its page, the lock word or key that it belongs to, and who may use it (document 01, "Locks", "Keys", "Permission").
+// Whose row a row is: its page, the lock word or key that it belongs to, of a lock row whose key settings count, and who may use it
+// (document 01, "Locks", "Keys", "Permission").
 ghost use Prim.Native.Nat.{_≤_, _<_};
 use crate::print;
 use chip::keys::hidden;
@@ -65,6 +66,17 @@ fn owner_line(row: u32) {
     print::end();
 }
 
+// Of a lock row the key settings that count are not those of the page that it locks.
+fn keys_line(row: u32) {
+    if row < Page::FIRST_LOCK_ROW {
+        return;
+    }
+    let page = Page::key_page(row);
+    print::left(b"keys", 12);
+    print::number_after(b"the key settings of page ", page.number as u32);
+    print::line(b" count (erratum E28)");
+}
+
 // What a caller may do with a row: 0 nothing, 1 read, 2 read and write. A row of a valid key answers nobody.
 pub fn allowed(state: State, caller: u32, row: u32) -> u32 {
     if hidden(state, row) {
@@ -93,6 +105,7 @@ pub fn lines(state: State, row: u32)
 {
     page_line(row);
     owner_line(row);
+    keys_line(row);
     may_line(b"Secure", allowed(state, 0, row));
     may_line(b"Non-secure", allowed(state, 1, row));
 }

@@ -4,13 +4,15 @@ use crate::owner::allowed;
 use crate::print;
 use access::rows::row_at;
 use chip::pages::Page;
+use chip::permission::row_key_level;
 use chip::state::State;
 use chip::state::counted_index;
 use chip::state::counted_level;
 use chip::state::counted_no_key;
 use row::writing::pulses;
 
-// What the screen says of a page. Of each caller: 0 may do nothing, 1 read, 2 read and write, 3 read, and write as each row's own page allows.
+// What the screen says of a page. Of each caller: 0 may do nothing, 1 read, 2 read and write, 3 read, and write as the levels of each
+// row's own page allow.
 pub struct Line {
     pub secure: u32,
     pub nonsecure: u32,
@@ -35,14 +37,19 @@ fn burnt(rows: &[u32], page: u32) -> u32
     sum
 }
 
-// What a caller may do with the rows of a page. The lock rows, from page 62 on, go by the pages that they lock.
+// What a caller may do with the rows of a page. The lock rows, from page 62 on, go by the levels of the pages that they lock, and all
+// of one page by one key level: where it is not 0, none of them is written.
 fn may(state: State, caller: u32, page: u32) -> u32
     requires { ⌜ page < 64 ⌝ }
 {
-    if 62 <= page {
-        return 3;
+    let first = Page { number: page as u8 }.first_row();
+    if page < 62 {
+        return allowed(state, caller, first);
     }
-    allowed(state, caller, Page { number: page as u8 }.first_row())
+    if row_key_level(state, first) != 0 {
+        return 1;
+    }
+    3
 }
 
 pub fn line_of(rows: &[u32], state: State, number: u32) -> Line

@@ -121,7 +121,12 @@ fn show(rows: &[u32; 4096], state: State) {
     lines(rows, state);
     print::end();
     print::line(b"S is Secure, N Non-secure. Level 0 reads and writes, 1 reads, 2 does neither.");
-    print::line(b"* A lock row is always read, and is written as the page that it locks allows.");
+    print::line(
+        b"* A lock row is always read. Writing it goes by the levels of the page it locks,",
+    );
+    print::line(
+        b"  and by the keys of page 62 (lock words 0 to 31) or 63 (32 to 63): erratum E28.",
+    );
     key_lines(state);
 }
 
