@@ -110,7 +110,8 @@ typedef struct {
     bool whole;        /* all eight rows decoded: without it the key matches nothing */
 } otp_key;
 
-/* What the hardware latches at reset, for each page of 64 rows, and the key that was entered since. It is aligned so that it is copied
+/* What the hardware latches at reset, for each page of 64 rows, and the key that was entered since. Pages 62 and 63 are the lock rows: each
+   goes by the levels of the page that it locks, and by the keys of the page that it is in (erratum E28). It is aligned so that it is copied
    by words. */
 typedef struct {
     OTP_ALIGNAS(4)
