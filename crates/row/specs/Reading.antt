@@ -9,9 +9,13 @@ use Rattle.row.specs.Code.{code, flipped}
 use Rattle.row.specs.declared.answer.Answer.{Answer}
 use Rattle.row.specs.declared.answer.Condition.the-variants.{Clean, Repaired}
 
--- bits 23 and 22 both set: all 24 bits flipped; otherwise the row as it is
+-- bits 23 and 22 are both set
+abbrev pub bothSet : ℕ → Bool
+bothSet row = eqb (row / 2 ^ 22 % 4) 3
+
+-- both set: all 24 bits flipped; otherwise the row as it is
 abbrev pub upright : ℕ → ℕ
-upright row = if eqb (row / 2 ^ 22 % 4) 3 then flipped row else row
+upright row = if bothSet row then flipped row else row
 
 -- bits 15:0, the data
 abbrev pub dataOf : ℕ → ℕ

@@ -9,11 +9,18 @@ use crate::answer::refused;
 use crate::coding::code;
 use crate::coding::flipped;
 
+// Whether bits 23 and 22 are both set.
+fn both_set(row: u32) -> bool
+    ensures { λ r. ⌜ r ≡ spec.bothSet row ⌝ }
+{
+    (row >> 22) % 4 == 3
+}
+
 // The row with its polarity taken off.
 fn upright(row: u32) -> u32
     ensures { λ r. ⌜ r ≡ spec.upright row ⌝ }
 {
-    if (row >> 22) % 4 == 3 {
+    if both_set(row) {
         return flipped(row);
     }
     row
