@@ -4,7 +4,8 @@ ghost use Rattle.otp.specs.Flat as spec;
 use chip::state::Outcome;
 use chip::state::State;
 use row::answer::Answer;
-use row::answer::Condition;
+use row::conditions::condition_number;
+use row::conditions::repaired_bit;
 
 // `otp_answer` of the header.
 #[repr(C)]
@@ -32,26 +33,6 @@ pub struct FlatOutcome {
     pub state: State,
 }
 
-// 0 for clean, 1 for repaired.
-fn condition_of(condition: Condition) -> u32
-    ensures { λ r. ⌜ r ≡ spec.conditionOf condition ⌝ }
-{
-    match condition {
-        Condition::Clean => 0,
-        Condition::Repaired(_) => 1,
-    }
-}
-
-// The repaired bit, 0 where clean.
-fn bit_of(condition: Condition) -> u32
-    ensures { λ r. ⌜ r ≡ spec.bitOf condition ⌝ }
-{
-    match condition {
-        Condition::Clean => 0,
-        Condition::Repaired(bit) => bit,
-    }
-}
-
 // An answer as C takes it.
 pub fn flat_answer(answer: Answer) -> FlatAnswer
     ensures { λ r. ⌜ r ≡ spec.flatAnswer answer ⌝ }
@@ -60,8 +41,8 @@ pub fn flat_answer(answer: Answer) -> FlatAnswer
     FlatAnswer {
         number: answer.number,
         value: answer.value,
-        condition: condition_of(condition),
-        bit: bit_of(condition),
+        condition: condition_number(condition),
+        bit: repaired_bit(condition),
         place: answer.place,
         pulses: answer.pulses,
     }

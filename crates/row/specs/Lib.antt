@@ -1,5 +1,6 @@
 pub mod Choice
 pub mod Answers
+pub mod Conditions
 pub mod Rungs
 pub mod Code
 pub mod Reading

@@ -2,6 +2,7 @@
 // The definitions that the contracts cite stand in specs/, in document 01's words and order.
 pub mod answer;
 pub mod coding;
+pub mod conditions;
 pub mod reading;
 pub mod upward;
 pub mod writing;

@@ -1,16 +1,13 @@
 -- When two answers are the same: number, value, condition, place and pulses.
-use mathlib.Core.Bool.{Bool, true, false, _&&_}
+use mathlib.Core.Bool.{Bool, _&&_}
 use lib.Dec.{eqb}
+use Rattle.row.specs.Conditions.{conditionNumber, repairedBit}
 use Rattle.row.specs.declared.answer.Answer.{Answer}
 use Rattle.row.specs.declared.answer.Condition.{Condition}
-use Rattle.row.specs.declared.answer.Condition.the-variants.{Clean, Repaired}
 
--- both clean, or repaired at one place
+-- two conditions are the same if their numbers are
 abbrev pub sameCondition : Condition → Condition → Bool
-sameCondition Clean Clean = true
-sameCondition Clean (Repaired b) = false
-sameCondition (Repaired a) Clean = false
-sameCondition (Repaired a) (Repaired b) = eqb b a
+sameCondition a b = eqb (conditionNumber a) (conditionNumber b) && eqb (repairedBit a) (repairedBit b)
 
 abbrev pub sameAnswer : Answer → Answer → Bool
 sameAnswer a b =

@@ -1,36 +1,19 @@
 // Whether an answer or the rows of a chip are what they must be.
 ghost use mathlib.Core.Path.{_≡_};
-ghost use Rattle.row.specs.declared.answer.Condition.the-variants.{Clean, Repaired};
 ghost use Rattle.chip.specs.Lists.{same};
 ghost use Rattle.screen.specs.Same as spec;
 use row::answer::Answer;
 use row::answer::Condition;
-
-fn is_clean(condition: Condition) -> bool
-    ensures { λ r. ⌜ r ≡ spec.sameCondition Clean condition ⌝ }
-{
-    match condition {
-        Condition::Clean => true,
-        Condition::Repaired(_) => false,
-    }
-}
-
-fn is_repaired_at(condition: Condition, place: u32) -> bool
-    ensures { λ r. ⌜ r ≡ spec.sameCondition (Repaired place) condition ⌝ }
-{
-    match condition {
-        Condition::Clean => false,
-        Condition::Repaired(own) => own == place,
-    }
-}
+use row::conditions::condition_number;
+use row::conditions::repaired_bit;
 
 fn same_condition(a: Condition, b: Condition) -> bool
     ensures { λ r. ⌜ r ≡ spec.sameCondition a b ⌝ }
 {
-    match a {
-        Condition::Clean => is_clean(b),
-        Condition::Repaired(place) => is_repaired_at(b, place),
+    if condition_number(a) != condition_number(b) {
+        return false;
     }
+    repaired_bit(a) == repaired_bit(b)
 }
 
 pub fn same_answer(a: Answer, b: Answer) -> bool

@@ -5,15 +5,15 @@ use Rattle.otp.specs.Flat.{flatAnswer}
 use Rattle.otp.proofs.flat.flat_answer.Statement.{statement}
 use Rattle.otp.proofs.flat.flat_answer.Tie as tie
 
-condition-of-requires : tie.Need-condition-of-requires
-condition-of-requires c κs = search needs
+condition-number-requires : tie.Need-condition-number-requires
+condition-number-requires c κs = search needs
 
-bit-of-requires : tie.Need-bit-of-requires
-bit-of-requires c κs = search needs
+repaired-bit-requires : tie.Need-repaired-bit-requires
+repaired-bit-requires c κs = search needs
 
 returns : tie.Need-returns
 unfolding flatAnswer
-returns c = simp (c .before .condition-of .ensures, c .bit-of .ensures)
+returns c = simp (c .before .condition-number .ensures, c .repaired-bit .ensures)
 
 pub flat-answer-spec : {M : Type 1} → statement M
-flat-answer-spec = tie.close (tie.spec condition-of-requires bit-of-requires returns)
+flat-answer-spec = tie.close (tie.spec condition-number-requires repaired-bit-requires returns)

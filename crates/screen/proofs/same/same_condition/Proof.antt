@@ -1,28 +1,43 @@
--- `screen::same::same_condition` meets its contract, by the first condition.
+-- `screen::same::same_condition` meets its contract, by the numbers of the two conditions.
 -- Assumes nothing.
 use borrow.Author.Needs.{needs}
+use borrow.Author.Tests.{eq-eqb, ne-eqb}
+use mathlib.Core.Path.{ap₂}
+use lib.Dec.{eqb}
 use Rattle.screen.proofs.same.same_condition.Statement.{statement}
 use Rattle.screen.proofs.same.same_condition.Tie as tie
 
-enum-told : tie.Need-enum-told
-enum-told c = search needs
+condition-number-requires : tie.Need-condition-number-requires
+condition-number-requires c κs = search needs
 
-is-clean-requires : tie.Need-is-clean-requires
-is-clean-requires c κs = search needs
-
-enum-known-a : tie.Need-enum-known-a
-enum-known-a c = search needs
-
-is-repaired-at-requires : tie.Need-is-repaired-at-requires
-is-repaired-at-requires c κs = search needs
+condition-number-requires-2 : tie.Need-condition-number-requires-2
+condition-number-requires-2 c κs = search needs
 
 returns : tie.Need-returns
-returns c = search needs
+returns c = rw (← c .before .before .condition-number .ensures, ← c .before .condition-number2 .ensures, ne-eqb _ _ (c .if1 .taken))
+
+repaired-bit-requires : tie.Need-repaired-bit-requires
+repaired-bit-requires c κs = search needs
+
+repaired-bit-requires-2 : tie.Need-repaired-bit-requires-2
+repaired-bit-requires-2 c κs = search needs
 
 returns-2 : tie.Need-returns-2
-returns-2 c = rw (c .before .before .a .given .1) (c .is-repaired-at .ensures)
+returns-2 c =
+    rw (
+      ← c .before .before .before .before .condition-number .ensures,
+      ← c .before .before .before .condition-number2 .ensures,
+      eq-eqb _ _ (c .before .before .if1 .left),
+    )
+    (ap₂ eqb (c .before .repaired-bit .ensures) (c .repaired-bit2 .ensures))
 
 pub same-condition-spec : {M : Type 1} → statement M
 same-condition-spec =
     tie.close
-    (tie.spec enum-told is-clean-requires enum-known-a is-repaired-at-requires returns returns-2)
+    (tie.spec
+    condition-number-requires
+    condition-number-requires-2
+    returns
+    repaired-bit-requires
+    repaired-bit-requires-2
+    returns-2)
