@@ -5,7 +5,7 @@ use row::answer::Answer;
 use row::answer::Condition;
 use row::reading::read_row;
 
-// The width of the widest, and two blanks behind it.
+// The width of the widest, "0x0001 flag worn bit 12", and a blank behind it.
 const WIDTH: usize = 24;
 
 fn condition(condition: Condition) {
@@ -16,6 +16,13 @@ fn condition(condition: Condition) {
         Condition::Repaired(place) => {
             print::text(b" repaired bit ");
             print::number_left(place, 4);
+        }
+        Condition::FlagWorn => {
+            print::left(b" flag worn", 18);
+        }
+        Condition::FlagWornRepaired(place) => {
+            print::text(b" flag worn bit ");
+            print::number_left(place, 3);
         }
     }
 }

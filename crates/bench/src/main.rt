@@ -5,6 +5,7 @@ mod begin;
 mod changes;
 mod code;
 mod compare;
+mod condition;
 mod differences;
 mod dump;
 mod dump_lines;

@@ -1,6 +1,7 @@
 // `otp read`: one row with ECC, as it is, or by a vote, and whose row it is (document 01).
 ghost use Prim.Native.Nat.{_≤_};
 use crate::begin::begin;
+use crate::condition;
 use crate::ended::Ended;
 use crate::entered_key;
 use crate::levels;
@@ -18,7 +19,6 @@ use access::reads::read_raw;
 use access::votes::read_vote;
 use chip::state::State;
 use row::answer::Answer;
-use row::answer::Condition;
 
 // How the row is read: with ECC, as it is, or by a vote of so many rows.
 enum Way {
@@ -57,23 +57,15 @@ fn title(caller: u32, row: u32, way: Way) {
     }
 }
 
-fn condition_line(condition: Condition) {
+fn condition_line(answer: Answer) {
     print::left(b"condition", 12);
-    match condition {
-        Condition::Clean => {
-            print::line(b"clean");
-        }
-        Condition::Repaired(place) => {
-            print::number_after(b"repaired bit ", place);
-            print::end();
-        }
-    }
+    condition::words(answer);
+    print::end();
 }
 
 // What was read. Only a read with ECC has a condition, and a value of 16 bits.
 fn value_lines(answer: Answer, way: Way) {
     let value = answer.value;
-    let condition = answer.condition;
     print::left(b"value", 12);
     match way {
         Way::Ecc => {
@@ -89,7 +81,7 @@ fn value_lines(answer: Answer, way: Way) {
     print::number_after(b" = ", value);
     print::end();
     if let Way::Ecc = way {
-        condition_line(condition);
+        condition_line(answer);
     }
 }
 

@@ -1,4 +1,4 @@
--- Reset: what it asks of a slice, and that what it latches stands in the rows from 0xf40 up.
+-- Reset: what it asks of a slice, what its keys go by, and that what it latches stands in the rows from 0xf40 up.
 -- Assumes nothing.
 use mathlib.Core.Bool.{Bool, true, false, not}
 use mathlib.Core.List.{List}
@@ -14,35 +14,44 @@ use Rattle.chip.specs.Slices.{rowAt}
 use Rattle.chip.specs.Pages.{lowLockRow, highLockRow}
 use Rattle.chip.specs.declared.state.State.{State}
 use Rattle.latch.specs.Calls.{enterNumber, enterKey}
-use Rattle.latch.specs.Resetting.{allDecode, allInRange, latched, resetNumber, reset}
+use Rattle.latch.specs.Resetting.{allDecode, allInRange, wordOf, latched, resetNumber, reset}
 use Rattle.row.proofs.Ladders.{passed}
 use Rattle.access.proofs.Passing.{whole}
 use Rattle.laws.proofs.Agreement.{AgreeToWrite, SameLocks, locks-agree}
+use Rattle.laws.specs.Conditions.{ReadAlike, KeysByReading}
 use Rattle.laws.specs.Cuts.{Keyed, noKeyEntered, keyEntered, ready}
+
+-- ---- what keys go by
+
+module _ (rows left : List ℕ) (alike : (row : ℕ) → 0xf48 ≤ row → ReadAlike (rowAt left row) (rowAt rows row)) where
+  decode-same : (first n : ℕ) → 0xf48 ≤ first → allDecode left first n ≡ allDecode rows first n
+  unfolding allDecode
+  decode-same first zero high = refl
+  decode-same first (suc n) high = rw (decode-same first n high, alike (first + n) (omega arith) .0)
+
+pub keysByReading : KeysByReading
+unfolding latched
+keysByReading rows left alike same =
+    let word : (k i : ℕ) → wordOf (rowAt left (keyRow k + i)) ≡ wordOf (rowAt rows (keyRow k + i)) = λ k i. alike (keyRow k + i) (omega arith) .1 in
+    let valid : (k : ℕ) → rowAt left (validRow k) ≡ rowAt rows (validRow k) = λ k. same (validRow k) (omega arith) in
+    let decode : (k : ℕ) → allDecode left (keyRow k) 8 ≡ allDecode rows (keyRow k) 8 = λ k. decode-same rows left alike (keyRow k) 8 (omega arith) in
+    simp (word, valid, decode)
 
 -- ---- two slices that agree from 0xf40 up
 
 module _ (rows left : List ℕ) (same : (k : ℕ) → 0xf40 ≤ k → rowAt left k ≡ rowAt rows k) where
-  decode-same : (first n : ℕ) → 0xf40 ≤ first → allDecode left first n ≡ allDecode rows first n
-  unfolding allDecode
-  decode-same first zero high = refl
-  decode-same first (suc n) high = rw (decode-same first n high, same (first + n) (omega arith))
-
   latched-same : SameLocks (latched left) (latched rows)
   unfolding latched
   latched-same =
       let low : (page : ℕ) → rowAt left (lowLockRow page) ≡ rowAt rows (lowLockRow page) = λ page. same (lowLockRow page) (omega arith) in
       let high : (page : ℕ) → rowAt left (highLockRow page) ≡ rowAt rows (highLockRow page) = λ page. same (highLockRow page) (omega arith) in
-      let key : (k i : ℕ) → rowAt left (keyRow k + i) ≡ rowAt rows (keyRow k + i) = λ k i. same (keyRow k + i) (omega arith) in
-      let valid : (k : ℕ) → rowAt left (validRow k) ≡ rowAt rows (validRow k) = λ k. same (validRow k) (omega arith) in
-      let decode : (k : ℕ) → allDecode left (keyRow k) 8 ≡ allDecode rows (keyRow k) 8 = λ k. decode-same (keyRow k) 8 (omega arith) in
       record {
         secure = simp high;
         nonsecure = simp high;
         writekey = simp low;
         readkey = simp low;
         nokey = simp low;
-        keys = simp (key, valid, decode);
+        keys = keysByReading rows left (λ k above. rw (same k (omega arith)) (refl, refl)) (λ k above. same k (omega arith));
         entered = refl;
       }
 

@@ -1,5 +1,6 @@
 pub mod Worked
 pub mod Codes
+pub mod Flags
 pub mod Reading
 pub mod Writes
 pub mod Votes
@@ -7,6 +8,7 @@ pub mod Numbers
 pub mod Permits
 pub mod LockRows
 pub mod Refusals
+pub mod Conditions
 pub mod Burning
 pub mod Locking
 pub mod CallWrites
@@ -15,6 +17,7 @@ pub mod Entries
 pub mod Rising
 pub mod Rewriting
 pub mod Latches
+pub mod KeyWear
 pub mod Ranges
 pub mod Acceptance
 pub mod Agreement

@@ -1,59 +1,34 @@
--- Reading a row: the bits that are looked at, what they are read as, and every promise of a read.
+-- Reading a row: what its bits are read as, and every promise of a read.
 -- Assumes nothing.
 use mathlib.Core.Bool.{Bool, true, false}
 use mathlib.Core.Logic.{_⊎_, inl, inr}
 use mathlib.Core.Path.{_≡_, refl, sym, ap, _∙_, subst}
-use Prim.Native.Nat.{ℕ, zero, suc, _+_, _-_, _*_, _/_, _%_, _^_, _≤_, _<_}
-use native.Mathlib.Nat.{div-eq-of-lt, le-refl, le-of-lt, mod-eq-of-lt, mod-lt}
+use Prim.Native.Nat.{ℕ, zero, suc, _-_, _%_, _^_, _≤_, _<_}
+use native.Mathlib.Nat.{le-refl, le-of-lt, mod-eq-of-lt, mod-lt}
 use native.Mathlib.Omega.{arith}
 use borrow.Author.Tests.{eqb-true, eq-eqb, ne-eqb, lt-ltb}
-use lib.Bits.{bitXor, xor-lt, xor-mod, xor-self, xor-shr, xor-zero-r}
+use lib.Bits.{bitXor, xor-lt, xor-mod, xor-self}
 use lib.Count.{onesIn}
-use lib.Dec.{eqb, leb, ltb, eqb→eq, leb→le, ltb→lt, lit≤}
+use lib.Dec.{eqb, leb, eqb→eq, leb→le, lit≤}
 use lib.Pow.{pow-lt, pow-pos}
 use Rattle.row.specs.Answers.{refused, found}
-use Rattle.row.specs.Code.{setBits, distance, parity, masks, withCheck, withChecks, code, flipped, plain, inverted}
-use Rattle.row.specs.Reading.{upright, dataOf, isCode, flippedAt, repairedBelow, decoded, readRow}
+use Rattle.row.specs.Code.{setBits, distance, parity, masks, withCheck, withChecks, code, inverted}
+use Rattle.row.specs.Reading.{upright, dataOf, isCode, flippedAt, repairedBelow, decoded, saidOf, readRow}
 use Rattle.row.specs.declared.answer.Answer.{Answer}
 use Rattle.row.specs.declared.answer.Condition.{Condition}
 use Rattle.row.specs.declared.answer.Condition.the-variants.{Clean, Repaired}
 use Rattle.row.proofs.Codes.{code-data, code-lt}
 use Rattle.row.proofs.Counts.{ones-split, ZeroOrPower, one-set}
-use Rattle.row.proofs.Digits.{at-below, at-digits2, equal2}
+use Rattle.row.proofs.Digits.{at-below}
 use Rattle.row.proofs.Ladders.{read-or-8}
 use Rattle.row.proofs.Places.{xor-right-comm}
 use Rattle.row.proofs.Syndromes.{xor-cancel, xor-cancel-left, xor-none, syndrome, data-lt, syndrome-linear, code-syndrome, columns, placeBelow, decoded-by-syndrome}
-use Rattle.laws.specs.Reads.{Value, looked, Near, OneValue, ZeroOrEight, Sound, Complete, EightExactly, ConditionNames, Corrected, PlainFlag, InvertedFlag}
-
--- ---- the bits that are looked at
-
--- bits 23:22 not both set
-as-it-is : (row : ℕ) → row / 2 ^ 22 % 4 < 3 → upright row ≡ row
-as-it-is row other = rw (ne-eqb (row / 2 ^ 22 % 4) 3 (λ both. omega arith))
-
-pub looked-plain : (bits : ℕ) → bits < 2 ^ 22 → looked bits ≡ bits
-looked-plain bits h =
-    ap (λ (row : ℕ). row % 2 ^ 22) (as-it-is bits (omega (arith, div-eq-of-lt h))) ∙ mod-eq-of-lt h
-
-both-set : (bits : ℕ) → bits < 2 ^ 22 → flipped bits / 2 ^ 22 ≡ 3
-both-set bits h = xor-shr bits 0xffffff 22 ∙ ap (λ (top : ℕ). bitXor top 3) (div-eq-of-lt h)
-
-pub looked-inverted : (bits : ℕ) → bits < 2 ^ 22 → looked (flipped bits) ≡ bits
-looked-inverted bits h = rw (both-set bits h, xor-cancel bits 0xffffff) (mod-eq-of-lt h)
-
--- one of bits 23:22 flipped in a row of either polarity, 0 plain and 1 inverted: the row is looked at as it is
-looked-flag : (row polarity j : ℕ) → polarity < 2 → j < 2 → row / 2 ^ 22 ≡ polarity * 3 → looked (flippedAt (22 + j) row) ≡ row % 2 ^ 22
-looked-flag row polarity j hp hj top =
-    let other : bitXor (polarity * 3) (2 ^ (22 + j) / 2 ^ 22) % 4 < 3 =
-    ltb→lt _ _ (at-digits2 (λ x y. ltb (bitXor (x * 3) (2 ^ (22 + y) / 2 ^ 22) % 4) 3) tt polarity j hp hj) in
-    let below : 2 ^ (22 + j) % 2 ^ 22 ≡ 0 = equal2 (λ x y. 2 ^ (22 + y) % 2 ^ 22) (λ x y. 0) tt polarity j hp hj in
-    ap (λ (bits : ℕ). bits % 2 ^ 22)
-    (as-it-is (flippedAt (22 + j) row) (rw (xor-shr row (2 ^ (22 + j)) 22, top) other))
-    ∙ xor-mod row (2 ^ (22 + j)) 22 ∙ ap (bitXor (row % 2 ^ 22)) below ∙ xor-zero-r (row % 2 ^ 22)
+use Rattle.laws.specs.Reads.{Value, looked, Near, OneValue, ZeroOrEight, Sound, Complete, EightExactly, Undamaged, Corrected, PlainFlag, PlainFlagCorrected, InvertedFlag}
+use Rattle.laws.proofs.Flags.{both-set, looked-flag, said-plain, said-inverted, said-worn}
 
 -- ---- what some bits are read as
 
-pub decoded-code : (value : ℕ) → Value value → decoded (code value) ≡ found value Clean
+decoded-code : (value : ℕ) → Value value → decoded (code value) ≡ found value Clean
 unfolding decoded
 decoded-code value h = rw (code-data value h, eq-eqb (code value) (code value) refl)
 
@@ -62,6 +37,9 @@ place-named : (place : ℕ) → place < 22 → placeBelow 22 (syndrome (2 ^ plac
 unfolding columns placeBelow syndrome code withChecks withCheck masks parity setBits onesIn
 place-named place h =
     eqb→eq (placeBelow 22 (syndrome (2 ^ place))) place (at-below 22 (λ k. eqb (placeBelow 22 (syndrome (2 ^ k))) k) tt place h)
+
+pub same-place : (a b : ℕ) → a < 22 → b < 22 → 2 ^ a ≡ 2 ^ b → a ≡ b
+same-place a b la lb e = sym (place-named a la) ∙ ap (λ (power : ℕ). placeBelow 22 (syndrome power)) e ∙ place-named b lb
 
 -- the syndrome of a damaged code is that of the damage
 syndrome-of-damage : (value damage : ℕ) → Value value → syndrome (bitXor (code value) damage) ≡ syndrome damage
@@ -92,7 +70,7 @@ is-own-code : (bits : ℕ) → isCode bits ≡ true → bits ≡ code (dataOf bi
 is-own-code bits e = eqb-true bits (code (dataOf bits)) e
 
 -- what some bits are, by what they are read as
-data Read (bits : ℕ) : Answer → Type 0 where
+pub data Read (bits : ℕ) : Answer → Type 0 where
   clean : (value : ℕ) → Value value → bits ≡ code value → Read bits (found value Clean)
   repaired : (value place : ℕ) → Value value → place < 22 → bits ≡ flippedAt place (code value) → Read bits (found value (Repaired place))
   nothing : Read bits (refused 8)
@@ -109,7 +87,7 @@ read-below (suc place) bits h = go (isCode (flippedAt place bits)) refl (read-be
         (sym (xor-cancel bits (2 ^ place)) ∙ ap (flippedAt place) (is-own-code (flippedAt place bits) e)))
     go false e below = rw (e, repairedBelow) below
 
-read : (bits : ℕ) → Read bits (decoded bits)
+pub read : (bits : ℕ) → Read bits (decoded bits)
 unfolding decoded
 read bits = go (isCode bits) refl
   where
@@ -136,19 +114,9 @@ pub sound : Sound
 unfolding setBits onesIn
 sound row = go (read (looked row))
   where
-    go : {answer : Answer} → Read (looked row) answer → answer .number ≡ 0 → Near row (answer .value)
+    go : {held : Answer} → Read (looked row) held → saidOf row held .number ≡ 0 → Near row (saidOf row held .value)
     go (clean value h e) done = (h, rw (e, xor-self (code value)) (lit≤ tt))
     go (repaired value place h l e) done = (h, rw e (one-away place (code value) l))
-    go nothing done = absurd (omega arith)
-
-pub conditionNames : ConditionNames
-conditionNames row = go (read (looked row))
-  where
-    go : {answer : Answer} → Read (looked row) answer → answer .number ≡ 0
-        → ((answer .condition ≡ Clean) × (looked row ≡ code (answer .value)))
-        ⊎ ((place : ℕ) × (place < 22) × (answer .condition ≡ Repaired place) × (looked row ≡ flippedAt place (code (answer .value))))
-    go (clean value h e) done = inl (refl, e)
-    go (repaired value place h l e) done = inr (place, l, refl, e)
     go nothing done = absurd (omega arith)
 
 -- bits within one place of a value's code are read as that value
@@ -184,26 +152,38 @@ eightExactly row = (
     go none (inl done) = absurd (none (readRow row .value) (sound row done))
     go none (inr eight) = eight
 
+-- a value's code with one bit flipped has no more bits
+flipped-lt : (value place : ℕ) → Value value → place < 22 → flippedAt place (code value) < 2 ^ 22
+flipped-lt value place h l = xor-lt 22 (code value) (2 ^ place) (code-lt value h) (pow-lt l)
+
+pub undamaged : Undamaged
+undamaged value h = (
+  said-plain (code value) value Clean (code-lt value h) (decoded-code value h),
+  said-inverted (code value) value Clean (code-lt value h) (decoded-code value h),
+)
+
 pub corrected : Corrected
 corrected value place h l =
-    let small : flippedAt place (code value) < 2 ^ 22 = xor-lt 22 (code value) (2 ^ place) (code-lt value h) (pow-lt l) in (
-      ap decoded (looked-plain (flippedAt place (code value)) small) ∙ decoded-flipped value place h l,
-      ap decoded (ap looked (xor-right-comm (code value) 0xffffff (2 ^ place)) ∙ looked-inverted (flippedAt place (code value)) small)
-          ∙ decoded-flipped value place h l,
+    let small = flipped-lt value place h l in
+    let held = decoded-flipped value place h l in (
+      said-plain (flippedAt place (code value)) value (Repaired place) small held,
+      ap readRow (xor-right-comm (code value) 0xffffff (2 ^ place))
+          ∙ said-inverted (flippedAt place (code value)) value (Repaired place) small held,
     )
 
 pub plainFlag : PlainFlag
-plainFlag value place h low high =
-    let small = code-lt value h in
-    subst (λ (k : ℕ). readRow (flippedAt k (plain value)) ≡ found value Clean) (omega arith)
-    (ap decoded (looked-flag (plain value) 0 (place - 22) (omega arith) (omega arith) (div-eq-of-lt small) ∙ mod-eq-of-lt small)
-    ∙ decoded-code value h)
+plainFlag value flag h = said-worn (code value) value Clean (code-lt value h) (decoded-code value h) flag
+
+pub plainFlagCorrected : PlainFlagCorrected
+plainFlagCorrected value place flag h l =
+    said-worn (flippedAt place (code value)) value (Repaired place) (flipped-lt value place h l) (decoded-flipped value place h l) flag
 
 pub invertedFlag : InvertedFlag
 invertedFlag value place h low high =
     let small = code-lt value h in
-    subst (λ (k : ℕ). readRow (flippedAt k (inverted value)) ≡ refused 8) (omega arith)
+    ap (saidOf (flippedAt place (inverted value)))
+    (subst (λ (k : ℕ). decoded (looked (flippedAt k (inverted value))) ≡ refused 8) (omega arith)
     (ap decoded
     (looked-flag (inverted value) 1 (place - 22) (omega arith) (omega arith) (both-set (code value) small)
     ∙ xor-mod (code value) 0xffffff 22 ∙ ap (λ (bits : ℕ). bitXor bits 0x3fffff) (mod-eq-of-lt small))
-    ∙ decoded-all-flipped value h)
+    ∙ decoded-all-flipped value h))

@@ -9,18 +9,17 @@ use native.Mathlib.Omega.{arith}
 use borrow.Author.Tests.{eqb-true, eqb-false, eq-eqb, ne-eqb}
 use lib.Bits.{bitAnd, bitOr, differ, and-self}
 use lib.Dec.{eqb, eqb→eq}
-use Rattle.row.specs.Answers.{found}
+use Rattle.row.specs.Answers.{foundIn}
 use Rattle.row.specs.Code.{bitAt, setBits, code, flipped, plain, inverted}
-use Rattle.row.specs.Reading.{decoded, readRow}
+use Rattle.row.specs.Reading.{readRow}
 use Rattle.row.specs.Writing.{fits, pulses, burntOver, leftAlone, eccWritten}
 use Rattle.row.specs.declared.answer.Condition.the-variants.{Clean}
 use Rattle.row.specs.declared.writing.Written.{Written}
-use Rattle.row.proofs.Codes.{code-lt}
 use Rattle.row.proofs.Counts.{ones-sum, ZeroOrPower, one-set}
 use Rattle.row.proofs.Digits.{zero-or-one, at-below, equal3}
 use Rattle.row.proofs.Places.{bit-lt, bit-and, bit-or, bit-xor, by-digits, and-assoc, and-or, and-power}
-use Rattle.laws.specs.Writes.{In, ZeroOrNine, ReadsBack, KeepsBits, NineExactly, RefusedKeeps, OneBitFits, SameEcc, SameRaw, PulsesAdd, StandsAlready, InItself, InThrough}
-use Rattle.laws.proofs.Reading.{looked-plain, looked-inverted, decoded-code}
+use Rattle.laws.specs.Writes.{In, burntIn, ZeroOrNine, ReadsBack, KeepsBits, NineExactly, RefusedKeeps, OneBitFits, SameEcc, SameRaw, PulsesAdd, StandsAlready, InItself, InThrough}
+use Rattle.laws.proofs.Reading.{undamaged}
 
 -- ---- being in a row
 
@@ -65,9 +64,9 @@ zeroOrNine old value = go (written old value)
 pub readsBack : ReadsBack
 readsBack old value h = go (written old value)
   where
-    go : {w : Written} → Ecc old value w → w .number ≡ 0 → readRow (w .row) ≡ found value Clean
-    go (as-plain p) done = ap decoded (looked-plain (code value) (code-lt value h)) ∙ decoded-code value h
-    go (as-inverted ¬p i) done = ap decoded (looked-inverted (code value) (code-lt value h)) ∙ decoded-code value h
+    go : {w : Written} → Ecc old value w → w .number ≡ 0 → readRow (w .row) ≡ foundIn (burntIn old value) value Clean
+    go (as-plain p) done = rw p (undamaged value h .0)
+    go (as-inverted ¬p i) done = rw (ne-eqb (bitAnd old (plain value)) old (λ e. ¬p (in-shared old (plain value) e))) (undamaged value h .1)
     go (as-it-was ¬p ¬i) done = absurd (omega arith)
 
 pub keepsBits : KeepsBits

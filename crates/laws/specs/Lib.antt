@@ -5,6 +5,7 @@ pub mod Worked
 pub mod Calls
 pub mod Numbers
 pub mod Promises
+pub mod Conditions
 pub mod LockRows
 pub mod Cuts
 pub mod Jobs

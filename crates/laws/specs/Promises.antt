@@ -7,10 +7,11 @@ use mathlib.Core.Path.{_≡_}
 use lib.Bits.{bitOr}
 use lib.Dec.{ltb}
 use lib.ListN.{set}
-use Rattle.row.specs.Answers.{found}
+use Rattle.row.specs.Answers.{foundIn}
 use Rattle.row.specs.Code.{setBits, plain, inverted}
 use Rattle.row.specs.Rungs.{firstOf}
 use Rattle.row.specs.declared.answer.Condition.the-variants.{Clean}
+use Rattle.row.specs.declared.answer.Polarity.the-variants.{Plain}
 use Rattle.chip.specs.Pages.{highLockRow}
 use Rattle.chip.specs.Permission.{mayRead, mayWrite}
 use Rattle.chip.specs.Slices.{rowAt}
@@ -23,14 +24,14 @@ use Rattle.access.specs.Judging.{ecc, callRungs}
 use Rattle.access.specs.Writes.{writeRaw, writeEcc}
 use Rattle.laws.specs.Calls.{Chip, Call, aReset, aRawWrite, anEccWrite, aJob, aRehearsal, perform, performAll}
 use Rattle.laws.specs.Cuts.{newlySet}
-use Rattle.laws.specs.Writes.{In}
+use Rattle.laws.specs.Writes.{In, burntIn}
 
--- every refusal returns value 0, condition clean and 0 pulses, and leaves each row and the state unchanged
+-- every refusal returns value 0, condition clean, plain, and 0 pulses, and leaves each row and the state unchanged
 abbrev pub RefusalKeeps : Type 0
 RefusalKeeps =
     (chip : Chip) (call : Call) → (perform chip call .answer .number ≡ 0 → ⊥)
     → (perform chip call .answer .value ≡ 0) × (perform chip call .answer .condition ≡ Clean)
-    × (perform chip call .answer .pulses ≡ 0) × (perform chip call .chip ≡ chip)
+    × (perform chip call .answer .polarity ≡ Plain) × (perform chip call .answer .pulses ≡ 0) × (perform chip call .chip ≡ chip)
 
 -- what a contract here allows: the one outcome that a definition gives at the arguments
 abbrev pub Allows : {Arguments Outcome : Type 0} → (Arguments → Outcome) → Arguments → Outcome → Type 0
@@ -57,13 +58,13 @@ NoLockFalls =
     (chip : Chip) (calls : List Call) (domain page : ℕ) → NoReset calls
     → shownLevel (chip .state) domain page ≤ shownLevel (performAll chip calls .state) domain page
 
--- an ECC write that isn't refused reads back as its value, by whoever may read it
+-- an ECC write that isn't refused reads back as its value, clean, in the polarity that was burnt, by whoever may read it
 abbrev pub WriteReadsBack : Type 0
 WriteReadsBack =
     (rows : List ℕ) (state : State) (writer reader row value : ℕ)
     → writeEcc rows state writer row value .outcome .answer .number ≡ 0
     → readEccNumber (writeEcc rows state writer row value .rows) state reader row ≡ 0
-    → readEcc (writeEcc rows state writer row value .rows) state reader row ≡ found value Clean
+    → readEcc (writeEcc rows state writer row value .rows) state reader row ≡ foundIn (burntIn (rowAt rows row) value) value Clean
 
 -- who may write a row may read it
 abbrev pub MayWriteMayRead : Type 0
@@ -75,7 +76,7 @@ WriterReadsBack =
     (rows : List ℕ) (state : State) (writer row value : ℕ)
     → writeEcc rows state writer row value .outcome .answer .number ≡ 0
     → readEcc (writeEcc rows state writer row value .rows) (writeEcc rows state writer row value .outcome .state) writer row
-    ≡ found value Clean
+    ≡ foundIn (burntIn (rowAt rows row) value) value Clean
 
 -- a raw write only adds its bits
 abbrev pub RawAdds : Type 0

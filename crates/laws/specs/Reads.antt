@@ -3,10 +3,11 @@ use mathlib.Core.Logic.{_⊎_, _↔_}
 use mathlib.Core.Path.{_≡_}
 use Prim.Native.Nat.{ℕ, _%_, _^_, _≤_, _<_}
 use lib.Bits.{bitXor}
-use Rattle.row.specs.Answers.{refused, found}
+use Rattle.row.specs.Answers.{refused, found, foundIn}
 use Rattle.row.specs.Code.{distance, code, plain, inverted}
 use Rattle.row.specs.Reading.{upright, flippedAt, readRow}
-use Rattle.row.specs.declared.answer.Condition.the-variants.{Clean, Repaired}
+use Rattle.row.specs.declared.answer.Condition.the-variants.{Clean, Repaired, FlagWorn, FlagWornRepaired}
+use Rattle.row.specs.declared.answer.Polarity.the-variants.{Inverted}
 
 -- a value of 16 bits
 abbrev pub Value : ℕ → Type 0
@@ -48,23 +49,28 @@ Complete = (row value : ℕ) → Near row value → (readRow row .number ≡ 0) 
 abbrev pub EightExactly : Type 0
 EightExactly = (row : ℕ) → (readRow row .number ≡ 8) ↔ ((value : ℕ) → Near row value → ⊥)
 
--- clean: the bits are the value's code; repaired: they are that code with the named bit flipped
-abbrev pub ConditionNames : Type 0
-ConditionNames =
-    (row : ℕ) → readRow row .number ≡ 0
-    → ((readRow row .condition ≡ Clean) × (looked row ≡ code (readRow row .value)))
-    ⊎ ((place : ℕ) × (place < 22) × (readRow row .condition ≡ Repaired place) × (looked row ≡ flippedAt place (code (readRow row .value))))
+-- an undamaged row is read clean, in its polarity
+abbrev pub Undamaged : Type 0
+Undamaged =
+    (value : ℕ) → Value value
+    → (readRow (plain value) ≡ found value Clean) × (readRow (inverted value) ≡ foundIn Inverted value Clean)
 
--- any one flipped bit among 21:0 is corrected in either polarity, and the condition names it
+-- any one flipped bit among 21:0 is corrected in either polarity, and the condition names it, with its polarity
 abbrev pub Corrected : Type 0
 Corrected =
     (value place : ℕ) → Value value → place < 22
     → (readRow (flippedAt place (plain value)) ≡ found value (Repaired place))
-    × (readRow (flippedAt place (inverted value)) ≡ found value (Repaired place))
+    × (readRow (flippedAt place (inverted value)) ≡ foundIn Inverted value (Repaired place))
 
--- a flip in 23:22 does no harm to a plain row
+-- a flip in 23:22 does no harm to a plain row: it is flag worn
 abbrev pub PlainFlag : Type 0
-PlainFlag = (value place : ℕ) → Value value → 22 ≤ place → place < 24 → readRow (flippedAt place (plain value)) ≡ found value Clean
+PlainFlag = (value flag : ℕ) → Value value → 22 ≤ flag → flag < 24 → readRow (flippedAt flag (plain value)) ≡ found value FlagWorn
+
+-- with one more among 21:0 it is flag worn, with the repaired bit
+abbrev pub PlainFlagCorrected : Type 0
+PlainFlagCorrected =
+    (value place flag : ℕ) → Value value → place < 22 → 22 ≤ flag → flag < 24
+    → readRow (flippedAt flag (flippedAt place (plain value))) ≡ found value (FlagWornRepaired place)
 
 -- an inverted row that lost one of the two is refused with 8, never misread
 abbrev pub InvertedFlag : Type 0

@@ -3,11 +3,14 @@ use mathlib.Core.Bool.{true}
 use mathlib.Core.Logic.{_⊎_, _↔_}
 use mathlib.Core.Path.{_≡_}
 use Prim.Native.Nat.{ℕ, _+_, _^_, _≤_, _<_}
-use Rattle.row.specs.Answers.{found}
+use Rattle.row.specs.Answers.{foundIn}
+use Rattle.row.specs.Choice.{if_then_else_}
 use Rattle.row.specs.Code.{setBits, plain, inverted}
 use Rattle.row.specs.Reading.{readRow}
 use Rattle.row.specs.Writing.{fits, pulses, eccWritten, rawWritten}
 use Rattle.row.specs.declared.answer.Condition.the-variants.{Clean}
+use Rattle.row.specs.declared.answer.Polarity.{Polarity}
+use Rattle.row.specs.declared.answer.Polarity.the-variants.{Plain, Inverted}
 use Rattle.laws.specs.Reads.{Value}
 
 -- every bit of one row is in another
@@ -18,10 +21,15 @@ In old row = fits old row ≡ true
 abbrev pub ZeroOrNine : Type 0
 ZeroOrNine = (old value : ℕ) → (eccWritten old value .number ≡ 0) ⊎ (eccWritten old value .number ≡ 9)
 
--- what an ECC write leaves reads back as its value, clean
+-- the polarity that an ECC write burns: plain, or inverted where the plain row does not hold every bit already set
+abbrev pub burntIn : ℕ → ℕ → Polarity
+burntIn old value = if fits old (plain value) then Plain else Inverted
+
+-- what an ECC write leaves reads back as its value, clean, in that polarity
 abbrev pub ReadsBack : Type 0
 ReadsBack =
-    (old value : ℕ) → Value value → eccWritten old value .number ≡ 0 → readRow (eccWritten old value .row) ≡ found value Clean
+    (old value : ℕ) → Value value → eccWritten old value .number ≡ 0
+    → readRow (eccWritten old value .row) ≡ foundIn (burntIn old value) value Clean
 
 -- no burnt bit clears
 abbrev pub KeepsBits : Type 0

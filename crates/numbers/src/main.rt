@@ -22,7 +22,8 @@ fn legend() {
     print::text(
         b"The numbers of the nine calls against document 01
 
-An answer is its number, its value, its condition (clean, or the repaired bit) and its pulses.
+An answer is its number, its value, its condition and its pulses. The condition is clean, or the
+repaired bit, or worn where bits 23 and 22 disagree, with the repaired bit; ~ marks an inverted row.
 S is the caller Secure (0), N is Non-secure (1). What must be left of rows and state:
   kept     every row and the whole state as they were
   burnt    the row as the write must leave it, every other row and the whole state as they were

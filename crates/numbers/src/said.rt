@@ -1,7 +1,8 @@
 // The numbers of a line of a scene: what a call is given, and after a colon what must be.
 
-// What must be is a number, a value, the place of a repaired bit, pulses, and what is left: the row
-// that a write leaves, or the level that an advance leaves.
+// What must be is a number, a value, the place of a repaired bit, pulses, what is left, which is the
+// row that a write leaves or the level that an advance leaves, and the polarity of a row that is
+// read and whether its bits 23 and 22 disagree.
 pub struct Said {
     pub first: u32,
     pub second: u32,
@@ -12,6 +13,8 @@ pub struct Said {
     pub bit: u32,
     pub pulses: u32,
     pub left: u32,
+    pub polarity: u32,
+    pub disagree: u32,
 }
 
 // What a number that is left out, or written as a dash, stands as.
@@ -19,7 +22,7 @@ pub const NONE: u32 = 4294967295;
 
 // The numbers as far as they are read, in the order above.
 struct Scan {
-    numbers: [u32; 9],
+    numbers: [u32; 11],
     at: usize,
     hex: bool,
     inside: bool,
@@ -56,7 +59,7 @@ fn ended(scan: Scan, byte: u8) -> Scan {
     }
     let at = scan.at;
     if scan.inside {
-        if at < 8 {
+        if at < 10 {
             next.at = at + 1;
         }
     }
@@ -67,7 +70,7 @@ fn ended(scan: Scan, byte: u8) -> Scan {
 fn with_digit(scan: Scan, own: u32) -> Scan {
     let mut next = scan;
     next.inside = true;
-    let at = scan.at % 9;
+    let at = scan.at % 11;
     if scan.inside {
         next.numbers[at] = grown(scan.numbers[at], scan.hex, own);
         return next;
@@ -91,9 +94,9 @@ fn scanned(scan: Scan, byte: u8) -> Scan {
 }
 
 // The numbers of a part of a line, decimal or, after 0x, hexadecimal.
-fn numbers(part: &[u8]) -> [u32; 9] {
+fn numbers(part: &[u8]) -> [u32; 11] {
     let mut scan = Scan {
-        numbers: [NONE; 9],
+        numbers: [NONE; 11],
         at: 0,
         hex: false,
         inside: false,
@@ -118,5 +121,7 @@ pub fn read_line(part: &[u8]) -> Said {
         bit: n[6],
         pulses: n[7],
         left: n[8],
+        polarity: n[9],
+        disagree: n[10],
     }
 }

@@ -1,17 +1,19 @@
--- What C gets of an answer and an outcome: the same, with the condition as two numbers.
-use Rattle.row.specs.Conditions.{conditionNumber, repairedBit}
+-- What C gets of an answer and an outcome: the same, with the condition and the polarity as numbers.
+use Rattle.row.specs.Conditions.{conditionNumber, repairedBit, polarityNumber, disagreeNumber}
 use Rattle.row.specs.declared.answer.Answer.{Answer}
 use Rattle.chip.specs.declared.state.Outcome.{Outcome}
 use Rattle.otp.specs.declared.flat.FlatAnswer.{FlatAnswer}
 use Rattle.otp.specs.declared.flat.FlatOutcome.{FlatOutcome}
 
--- the answer, with its condition as two numbers
+-- the answer, with its condition as three numbers and its polarity as one
 unfoldable pub flatAnswer : Answer → FlatAnswer
 flatAnswer answer = record {
   number = answer .number;
   value = answer .value;
   condition = conditionNumber (answer .condition);
   bit = repairedBit (answer .condition);
+  polarity = polarityNumber (answer .polarity);
+  disagree = disagreeNumber (answer .condition);
   place = answer .place;
   pulses = answer .pulses;
 }

@@ -1,10 +1,12 @@
-// The answer and the outcome as C takes them. An enum cannot cross to C, so the condition is two numbers here.
+// The answer and the outcome as C takes them. An enum cannot cross to C, so the condition and the polarity are numbers here.
 ghost use mathlib.Core.Path.{_≡_};
 ghost use Rattle.otp.specs.Flat as spec;
 use chip::state::Outcome;
 use chip::state::State;
 use row::answer::Answer;
 use row::conditions::condition_number;
+use row::conditions::disagree_number;
+use row::conditions::polarity_number;
 use row::conditions::repaired_bit;
 
 // `otp_answer` of the header.
@@ -14,10 +16,14 @@ pub struct FlatAnswer {
     pub number: u32,
     // what a read or a vote found, or the level that a show shows
     pub value: u32,
-    // 0 clean, 1 repaired
+    // 0 clean, 1 repaired, 2 flag worn, 3 flag worn and repaired
     pub condition: u32,
-    // the repaired bit, 0 where clean
+    // the repaired bit of 1 and 3, and otherwise 0
     pub bit: u32,
+    // 0 plain, 1 inverted
+    pub polarity: u32,
+    // 1 where bits 23 and 22 disagreed
+    pub disagree: u32,
     // of a job: the refused entry, or how many leading entries stand
     pub place: u32,
     // the bits newly set
@@ -38,11 +44,14 @@ pub fn flat_answer(answer: Answer) -> FlatAnswer
     ensures { λ r. ⌜ r ≡ spec.flatAnswer answer ⌝ }
 {
     let condition = answer.condition;
+    let polarity = answer.polarity;
     FlatAnswer {
         number: answer.number,
         value: answer.value,
         condition: condition_number(condition),
         bit: repaired_bit(condition),
+        polarity: polarity_number(polarity),
+        disagree: disagree_number(condition),
         place: answer.place,
         pulses: answer.pulses,
     }

@@ -10,7 +10,7 @@ use lib.Dec.{T, eqb}
 use Rattle.row.specs.Answers.{refused}
 use Rattle.row.specs.Choice.{if_then_else_}
 use Rattle.row.specs.Code.{plain, inverted}
-use Rattle.row.specs.Reading.{isCode, flippedAt, repairedBelow, decoded, upright, readRow, undecodable}
+use Rattle.row.specs.Reading.{isCode, flippedAt, repairedBelow, decoded, upright, saidOf, readRow, undecodable}
 use Rattle.row.specs.Rungs.{Rung, _when_, firstOf, orElse}
 use Rattle.row.specs.Writing.{fits, burntOver, leftAlone, eccWritten, neitherFits}
 use Rattle.row.specs.declared.answer.Answer.{Answer}
@@ -75,10 +75,17 @@ unfolding repairedBelow
 settled-below zero bits = inr refl
 settled-below (suc place) bits = both-ways Settled (isCode (flippedAt place bits)) _ _ (inl refl) (settled-below place bits)
 
+settled : (bits : ℕ) → Settled (decoded bits)
+unfolding decoded
+settled bits = both-ways Settled (isCode bits) _ _ (inl refl) (settled-below 22 bits)
+
 -- a row is read, or refused with 8
 pub read-or-8 : (row : ℕ) → Settled (readRow row)
-unfolding decoded
-read-or-8 row = both-ways Settled (isCode (upright row % 2 ^ 22)) _ _ (inl refl) (settled-below 22 (upright row % 2 ^ 22))
+read-or-8 row = go (settled (upright row % 2 ^ 22))
+  where
+    go : {held : Answer} → Settled held → Settled (saidOf row held)
+    go (inl done) = inl (rw done)
+    go (inr eight) = inr (rw eight)
 
 -- 8 is given exactly where no value has a code within one bit
 pub eight : (row : ℕ) → readRow row .number ≡ firstOf (8 when undecodable row ∷ [])

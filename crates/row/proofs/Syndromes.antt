@@ -14,9 +14,10 @@ use lib.Pow.{split, pow-pos, shr-lt}
 use Rattle.row.specs.Answers.{refused, found}
 use Rattle.row.specs.Choice.{if_then_else_}
 use Rattle.row.specs.Code.{setBits, parity, masks, withCheck, withChecks, code}
-use Rattle.row.specs.Reading.{upright, dataOf, isCode, flippedAt, repairedBelow, decoded, readRow}
+use Rattle.row.specs.Reading.{upright, dataOf, isCode, flippedAt, repairedBelow, decoded, saidOf, readRow}
 use Rattle.row.specs.declared.answer.Answer.{Answer}
 use Rattle.row.specs.declared.answer.Condition.the-variants.{Clean, Repaired}
+use Rattle.row.proofs.Choices.{both-ways}
 use Rattle.row.proofs.Codes.{code-linear, code-data, code-lt}
 use Rattle.row.proofs.Digits.{at-below, NoneOf}
 use Rattle.row.proofs.Places.{xor-assoc}
@@ -194,10 +195,16 @@ repaired-lt (suc place) bits = go (repaired-lt place bits) (isCode (flippedAt pl
     go below true = mod-lt (flippedAt place bits) (pow-pos 16)
     go below false = below
 
-pub read-lt : (row : ℕ) → readRow row .value < 2 ^ 16
+decoded-lt : (bits : ℕ) → decoded bits .value < 2 ^ 16
 unfolding decoded
-read-lt row = go (isCode (upright row % 2 ^ 22))
+decoded-lt bits = go (isCode bits)
   where
-    go : (t : Bool) → (if t then found (dataOf (upright row % 2 ^ 22)) Clean else repairedBelow 22 (upright row % 2 ^ 22)) .value < 2 ^ 16
-    go true = mod-lt (upright row % 2 ^ 22) (pow-pos 16)
-    go false = repaired-lt 22 (upright row % 2 ^ 22)
+    go : (t : Bool) → (if t then found (dataOf bits) Clean else repairedBelow 22 bits) .value < 2 ^ 16
+    go true = mod-lt bits (pow-pos 16)
+    go false = repaired-lt 22 bits
+
+pub read-lt : (row : ℕ) → readRow row .value < 2 ^ 16
+read-lt row = go (decoded (upright row % 2 ^ 22)) (decoded-lt (upright row % 2 ^ 22))
+  where
+    go : (held : Answer) → held .value < 2 ^ 16 → saidOf row held .value < 2 ^ 16
+    go held small = both-ways (λ (answer : Answer). answer .value < 2 ^ 16) (eqb (held .number) 0) _ _ small (pow-pos 16)

@@ -1,13 +1,16 @@
 -- Reading a row with ECC (document 01, "A row with ECC").
 use Prim.Native.Nat.{ℕ, zero, suc, _/_, _%_, _^_}
-use mathlib.Core.Bool.{Bool}
+use mathlib.Core.Bool.{Bool, not}
 use lib.Bits.{bitXor}
 use lib.Dec.{eqb}
 use Rattle.row.specs.Choice.{if_then_else_}
-use Rattle.row.specs.Answers.{refused, found}
-use Rattle.row.specs.Code.{code, flipped}
+use Rattle.row.specs.Answers.{refused, found, foundIn, answered}
+use Rattle.row.specs.Code.{bitAt, code, flipped}
 use Rattle.row.specs.declared.answer.Answer.{Answer}
-use Rattle.row.specs.declared.answer.Condition.the-variants.{Clean, Repaired}
+use Rattle.row.specs.declared.answer.Condition.{Condition}
+use Rattle.row.specs.declared.answer.Condition.the-variants.{Clean, Repaired, FlagWorn, FlagWornRepaired}
+use Rattle.row.specs.declared.answer.Polarity.{Polarity}
+use Rattle.row.specs.declared.answer.Polarity.the-variants.{Plain, Inverted}
 
 -- bits 23 and 22 are both set
 abbrev pub bothSet : ℕ → Bool
@@ -40,9 +43,30 @@ repairedBelow (suc place) bits =
 unfoldable pub decoded : ℕ → Answer
 decoded bits = if isCode bits then found (dataOf bits) Clean else repairedBelow 22 bits
 
+-- which polarity a row is in: inverted exactly if bits 23 and 22 are both set
+abbrev pub polarityOf : ℕ → Polarity
+polarityOf row = if bothSet row then Inverted else Plain
+
+-- whether bits 23 and 22 disagree
+abbrev pub disagree : ℕ → Bool
+disagree row = not (eqb (bitAt 23 row) (bitAt 22 row))
+
+-- no longer clean but flag worn, with the repaired bit if there was one
+abbrev pub flagWorn : Condition → Condition
+flagWorn Clean = FlagWorn
+flagWorn (Repaired bit) = FlagWornRepaired bit
+flagWorn FlagWorn = FlagWorn
+flagWorn (FlagWornRepaired bit) = FlagWornRepaired bit
+
+-- what is said of a row that holds this: its polarity, and flag worn where bits 23 and 22 disagree; a refusal says neither
+abbrev pub saidOf : ℕ → Answer → Answer
+saidOf row held =
+    answered (held .number)
+    (foundIn (polarityOf row) (held .value) (if disagree row then flagWorn (held .condition) else held .condition))
+
 -- a row read with ECC
 abbrev pub readRow : ℕ → Answer
-readRow row = decoded (upright row % 2 ^ 22)
+readRow row = saidOf row (decoded (upright row % 2 ^ 22))
 
 -- no value has a code within one bit
 abbrev pub undecodable : ℕ → Bool

@@ -4,7 +4,9 @@ ghost use Prim.Native.Nat.{_%_, _^_};
 ghost use Rattle.row.specs.Reading as spec;
 use crate::answer::Answer;
 use crate::answer::Condition;
+use crate::answer::Polarity;
 use crate::answer::found;
+use crate::answer::found_in;
 use crate::answer::refused;
 use crate::coding::code;
 use crate::coding::flipped;
@@ -65,9 +67,55 @@ fn decoded(bits: u32) -> Answer
     found((own ^ (1 << place)) % 65536, Condition::Repaired(place))
 }
 
+// Which polarity a row is in.
+fn polarity_of(row: u32) -> Polarity
+    ensures { λ r. ⌜ r ≡ spec.polarityOf row ⌝ }
+{
+    if both_set(row) {
+        return Polarity::Inverted;
+    }
+    Polarity::Plain
+}
+
+// Whether bits 23 and 22 disagree.
+fn disagree(row: u32) -> bool
+    ensures { λ r. ⌜ r ≡ spec.disagree row ⌝ }
+{
+    (row >> 23) % 2 != (row >> 22) % 2
+}
+
+// The condition of a row whose bits 23 and 22 disagree.
+fn flag_worn(condition: Condition) -> Condition
+    ensures { λ r. ⌜ r ≡ spec.flagWorn condition ⌝ }
+{
+    match condition {
+        Condition::Clean => Condition::FlagWorn,
+        Condition::Repaired(bit) => Condition::FlagWornRepaired(bit),
+        Condition::FlagWorn => Condition::FlagWorn,
+        Condition::FlagWornRepaired(bit) => Condition::FlagWornRepaired(bit),
+    }
+}
+
+// What is said of a row that holds this: its polarity, and flag worn where bits 23 and 22 disagree. A refusal says neither.
+fn said_of(row: u32, held: Answer) -> Answer
+    ensures { λ r. ⌜ r ≡ spec.saidOf row held ⌝ }
+{
+    let number = held.number;
+    if number != 0 {
+        return refused(number);
+    }
+    let value = held.value;
+    let condition = held.condition;
+    let polarity = polarity_of(row);
+    if disagree(row) {
+        return found_in(polarity, value, flag_worn(condition));
+    }
+    found_in(polarity, value, condition)
+}
+
 // A row read with ECC.
 pub fn read_row(row: u32) -> Answer
     ensures { λ r. ⌜ r ≡ spec.readRow row ⌝ }
 {
-    decoded(upright(row))
+    said_of(row, decoded(upright(row)))
 }

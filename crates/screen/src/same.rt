@@ -3,24 +3,30 @@ ghost use mathlib.Core.Path.{_≡_};
 ghost use Rattle.chip.specs.Lists.{same};
 ghost use Rattle.screen.specs.Same as spec;
 use row::answer::Answer;
-use row::answer::Condition;
 use row::conditions::condition_number;
+use row::conditions::polarity_number;
 use row::conditions::repaired_bit;
 
-fn same_condition(a: Condition, b: Condition) -> bool
-    ensures { λ r. ⌜ r ≡ spec.sameCondition a b ⌝ }
+// Whether two answers say the same of the row.
+fn same_said(a: Answer, b: Answer) -> bool
+    ensures { λ r. ⌜ r ≡ spec.sameSaid a b ⌝ }
 {
-    if condition_number(a) != condition_number(b) {
+    let a_condition = a.condition;
+    let b_condition = b.condition;
+    let a_polarity = a.polarity;
+    let b_polarity = b.polarity;
+    if condition_number(a_condition) != condition_number(b_condition) {
         return false;
     }
-    repaired_bit(a) == repaired_bit(b)
+    if repaired_bit(a_condition) != repaired_bit(b_condition) {
+        return false;
+    }
+    polarity_number(a_polarity) == polarity_number(b_polarity)
 }
 
 pub fn same_answer(a: Answer, b: Answer) -> bool
     ensures { λ r. ⌜ r ≡ spec.sameAnswer a b ⌝ }
 {
-    let a_condition = a.condition;
-    let b_condition = b.condition;
     if a.number != b.number {
         return false;
     }
@@ -33,7 +39,7 @@ pub fn same_answer(a: Answer, b: Answer) -> bool
     if a.pulses != b.pulses {
         return false;
     }
-    same_condition(a_condition, b_condition)
+    same_said(a, b)
 }
 
 pub fn same_rows(a: &[u32], b: &[u32]) -> bool

@@ -4,17 +4,20 @@ use crate::read_lines::clean;
 use crate::read_lines::reads;
 use crate::samples::SAMPLES;
 use crate::samples::Sample;
+use row::answer::Polarity;
 use row::coding::code;
 use row::coding::inverted;
 use row::coding::plain;
 use screen::tally;
 use screen::tally::Tally;
 
-// How many of the two undamaged rows read the value, clean.
+// How many of the two undamaged rows read the value, clean, in their polarity.
 fn clean_reads(sample: Sample) -> u32 {
     let Sample(value, plain_row, inverted_row) = sample;
-    let of_plain = tally::one_more(0, reads(plain_row, clean(value as u32)));
-    tally::one_more(of_plain, reads(inverted_row, clean(value as u32)))
+    let plain_read = clean(value as u32, Polarity::Plain);
+    let inverted_read = clean(value as u32, Polarity::Inverted);
+    let of_plain = tally::one_more(0, reads(plain_row, plain_read));
+    tally::one_more(of_plain, reads(inverted_row, inverted_read))
 }
 
 fn row_column(bits: u32) {

@@ -8,6 +8,7 @@ use crate::read_lines::repaired;
 use crate::write_lines::burnt;
 use crate::write_lines::ecc_line;
 use crate::write_lines::kept;
+use row::answer::Polarity;
 use row::coding::code;
 use screen::tally;
 use screen::tally::Tally;
@@ -28,17 +29,17 @@ fn code_line(before: Tally, label: &[u8], value: u16, must: u32) -> Tally {
 
 pub fn run(before: Tally) -> Tally {
     print::headings(
-        b"The twelve worked rows: number, value and condition, or number, row and pulses",
+        b"The twelve worked rows: number, value, condition and polarity, or number, row and pulses",
         b"case      what                        must be                     is",
     );
     let p1 = code_line(before, b"P1", 0xffff, 0x1effff);
     let p2 = code_line(p1, b"P2", 0x8000, 0x158000);
-    let p3 = read_line(p2, b"P3", 0x230001, clean(1));
-    let p4 = read_line(p3, b"P4", 0x230000, repaired(1, 0));
-    let p5 = read_line(p4, b"P5", 0x000001, repaired(0, 0));
+    let p3 = read_line(p2, b"P3", 0x230001, clean(1, Polarity::Plain));
+    let p4 = read_line(p3, b"P4", 0x230000, repaired(1, 0, Polarity::Plain));
+    let p5 = read_line(p4, b"P5", 0x000001, repaired(0, 0, Polarity::Plain));
     let p6 = read_line(p5, b"P6", 0x000003, refused(8));
     let p7 = read_line(p6, b"P7", 0x160000, refused(8));
-    let p8 = read_line(p7, b"P8", 0xdcfffe, clean(1));
+    let p8 = read_line(p7, b"P8", 0xdcfffe, clean(1, Polarity::Inverted));
     let p9 = read_line(p8, b"P9", 0x9cfffe, refused(8));
     let p10 = ecc_line(p9, b"P10", 1, 0x000002, burnt(0xdcfffe, 19));
     let p11 = ecc_line(p10, b"P11", 1, 0x000003, kept(0x000003));

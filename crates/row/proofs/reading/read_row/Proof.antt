@@ -1,9 +1,9 @@
--- `row::reading::read_row` meets its contract, by those of `upright` and `decoded`.
+-- `row::reading::read_row` meets its contract, by those of `upright`, `decoded` and `said_of`.
 -- Assumes nothing.
 use borrow.Author.Needs.{needs}
 use mathlib.Core.Path.{ap, _∙_}
 use Prim.Native.Nat.{ℕ, _%_, _^_}
-use Rattle.row.specs.Reading.{decoded}
+use Rattle.row.specs.Reading.{decoded, saidOf}
 use Rattle.row.proofs.reading.read_row.Statement.{statement}
 use Rattle.row.proofs.reading.read_row.Tie as tie
 
@@ -13,8 +13,14 @@ upright-requires c κs = search needs
 decoded-requires : tie.Need-decoded-requires
 decoded-requires c κs = search needs
 
+said-of-requires : tie.Need-said-of-requires
+said-of-requires c κs = search needs
+
 returns : tie.Need-returns
-returns c = c .decoded .ensures ∙ ap (λ (row : ℕ). decoded (row % 2 ^ 22)) (c .before .upright .ensures)
+returns c =
+    c .said-of .ensures
+    ∙ ap (saidOf (c .before .before .before .args .row))
+    (c .before .decoded .ensures ∙ ap (λ (row : ℕ). decoded (row % 2 ^ 22)) (c .before .before .upright .ensures))
 
 pub read-row-spec : {M : Type 1} → statement M
-read-row-spec = tie.close (tie.spec upright-requires decoded-requires returns)
+read-row-spec = tie.close (tie.spec upright-requires decoded-requires said-of-requires returns)

@@ -5,10 +5,10 @@ use Rattle.worked.proofs.damage.repaired_places.Statement.{statement}
 use Rattle.worked.proofs.damage.repaired_places.Tie as tie
 
 abbrev Inv-loop : tie.InvT-loop
-Inv-loop row value right₀ place₀ right place = Unit
+Inv-loop row value polarity flag-worn right₀ place₀ right place = Unit
 
 abbrev μ-loop : tie.MeasureT-loop
-μ-loop row value right₀ place₀ right place = 22 - place
+μ-loop row value polarity flag-worn right₀ place₀ right place = 22 - place
 
 loop-holds : tie.Need-loop-holds Inv-loop μ-loop
 loop-holds c = search needs
@@ -16,8 +16,8 @@ loop-holds c = search needs
 shl-reads : tie.Need-shl-reads Inv-loop μ-loop
 shl-reads c = search needs
 
-repaired-requires : tie.Need-repaired-requires Inv-loop μ-loop
-repaired-requires c κs = search needs
+must-read-requires : tie.Need-must-read-requires Inv-loop μ-loop
+must-read-requires c κs = search needs
 
 reads-requires : tie.Need-reads-requires Inv-loop μ-loop
 reads-requires c κs = search needs
@@ -45,7 +45,7 @@ repaired-places-spec =
     μ-loop
     loop-holds
     shl-reads
-    repaired-requires
+    must-read-requires
     reads-requires
     one-more-requires
     add-place
