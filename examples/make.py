@@ -83,7 +83,7 @@ def worn():
     rows[0x0C1] = plain(0x004C) & ~(1 << 3)  # repaired bit 3
     rows[0x0C2] = inverted(1) & ~(1 << 18)  # repaired bit 18
     rows[0x0C3] = 0x000003  # no value within one bit; of 320 the inverted row fits, and of 1 neither
-    rows[0x0C5] = plain(240) | 1 << 22  # reads clean, and neither polarity of 240 fits
+    rows[0x0C5] = plain(240) | 1 << 22  # flag worn, and neither polarity of 240 fits
     rows[0x0C6] = inverted(240) & ~(1 << 23)  # lost half of its mark: refused, never misread
     # Critical flags: bit 0 stands in all eight rows, bit 1 in three, bit 2 in two.
     for i in range(8):

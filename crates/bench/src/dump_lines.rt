@@ -2,17 +2,11 @@
 use crate::ecc;
 use crate::owner::allowed;
 use crate::print;
+use crate::range::Range;
 use crate::row_names;
 use access::rows::row_at;
 use chip::state::State;
 use screen::tally::one_more;
-
-// The rows from `first` on, as far as the one before `past`. Where only those that hold bits are asked for, a blank one has no line.
-pub struct Range {
-    pub first: u32,
-    pub past: u32,
-    pub held: bool,
-}
 
 fn titles() {
     print::left(b"row", 7);
@@ -57,7 +51,7 @@ fn line(state: State, row: u32, bits: u32) {
     by_readers(0 < allowed(state, 0, row), 0 < allowed(state, 1, row), row);
 }
 
-// A line for each row of the range. How many of them hold bits.
+// A line for each row of the range; where only those that hold bits are asked for, a blank one has none. How many hold bits.
 fn lines(rows: &[u32], state: State, range: Range) -> u32 {
     let first = range.first;
     let past = range.past;

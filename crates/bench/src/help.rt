@@ -16,17 +16,31 @@ fn on_an_image() {
         b"    Reads a row with ECC, as it is, or by a vote of it and the rows that follow it.",
     );
     print::line(
+        b"    With ECC it says which bit was repaired, the polarity, or a worn flag: bits 23 and 22 disagree.",
+    );
+    print::line(
         b"    Says whose row it is, who may use it, and of a lock row whose key settings count.",
     );
     print::line(b"./otp pages IMAGE [--key HEX32]");
     print::line(
         b"    The 64 pages: levels, key indexes, no-key state, bits burnt, who may read and write.",
     );
+}
+
+fn on_rows_of_an_image() {
     print::line(b"./otp dump IMAGE [FIRST [LAST]] [--key HEX32]");
     print::line(
         b"    The rows that hold bits, the row FIRST, or all from FIRST to LAST: bits, what ECC reads,",
     );
     print::line(b"    who may read the row, and the datasheet's name of it.");
+    print::line(b"./otp wear IMAGE [FIRST LAST] [--key HEX32]");
+    print::line(
+        b"    The rows whose ECC read by Secure is repaired, flag worn (bits 23 and 22 disagree) or",
+    );
+    print::line(
+        b"    refused with 8, and how many rows are clean, worn, damaged or not permitted. It takes all",
+    );
+    print::line(b"    rows from FIRST to LAST, or those from 0 to 0xf3f that are not blank.");
 }
 
 fn on_other_files() {
@@ -54,6 +68,7 @@ fn on_other_files() {
 
 pub fn run() -> Ended {
     on_an_image();
+    on_rows_of_an_image();
     on_other_files();
     print::line(b"");
     print::line(

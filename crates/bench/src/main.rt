@@ -1,5 +1,5 @@
-// The bench crew's command: rehearse a job on an image of a chip, read a row, show the pages, dump or compare images, list or write a
-// job, show the code of a value.
+// The bench crew's command: rehearse a job on an image of a chip, read a row, show the pages, dump or compare images, list worn rows,
+// list or write a job, show the code of a value.
 // The script ./otp at the root runs it, and turns the last line that it writes into an exit status.
 mod begin;
 mod changes;
@@ -24,6 +24,7 @@ mod owner;
 mod page_line;
 mod pages;
 mod print;
+mod range;
 mod read;
 mod refusals;
 mod refused_row;
@@ -37,6 +38,8 @@ mod text_errors;
 mod text_job;
 mod text_words;
 mod usage;
+mod wear;
+mod wear_lines;
 mod words;
 mod write;
 
@@ -60,6 +63,9 @@ fn command() -> Ended {
     }
     if words::is(1, b"dump") {
         return dump::run();
+    }
+    if words::is(1, b"wear") {
+        return wear::run();
     }
     if words::is(1, b"list") {
         return list::run();

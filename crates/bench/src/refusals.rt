@@ -22,15 +22,19 @@ fn words_from_six(number: u32) {
     }
 }
 
-// "9: neither polarity fits"
-pub fn number_and_words(number: u32) {
-    print::number(number);
-    print::text(b": ");
+pub fn words(number: u32) {
     if number < 6 {
         words_to_five(number);
         return;
     }
     words_from_six(number);
+}
+
+// "9: neither polarity fits"
+pub fn number_and_words(number: u32) {
+    print::number(number);
+    print::text(b": ");
+    words(number);
 }
 
 pub fn of_row(row: u32) {
