@@ -7,7 +7,7 @@
  *
  *     request     call, rows_len, count of entries, count of bytes, four arguments, the state (444 bytes), the entries (place,
  *                 value), then the bytes of a key or a job
- *     reply       count of entries, the answer (24 bytes), the state if the call gives one back, then the entries (place, value)
+ *     reply       count of entries, the answer (32 bytes), the state if the call gives one back, then the entries (place, value)
  *                 that the call changed
  *
  * The whole image is looked at after each call, so a change to an entry that the call was not lent is told too. A request that is
@@ -44,7 +44,7 @@ typedef struct {
 /* What goes through the pipe has no gaps. */
 _Static_assert(sizeof(request) == 32 + 444, "size of request");
 _Static_assert(sizeof(entry) == 8, "size of entry");
-_Static_assert(sizeof(otp_answer) == 24, "size of otp_answer");
+_Static_assert(sizeof(otp_answer) == 32, "size of otp_answer");
 _Static_assert(sizeof(otp_state) == 444, "size of otp_state");
 _Static_assert(offsetof(otp_state, keys) == 320 && sizeof(otp_key) == 18, "place and size of the keys");
 _Static_assert(offsetof(otp_state, entered) == 428, "place of the entered key");

@@ -35,8 +35,8 @@
  * Each answer has a number: OTP_DONE, or one of the refusals 1 to 11 that are listed below.
  * Where several apply, the first in this order is given: 1, 4, 2, 5, 6, 7, 3, 8, 9. A job has its own order, given at otp_run_job.
  *
- * Any number but 0 is a refusal, and a refusal changes nothing: every row and the state are as they were. Its value, condition, bit
- * and pulses are 0, and so is its place, but for a job's 7, 3 and 9.
+ * Any number but 0 is a refusal, and a refusal changes nothing: every row and the state are as they were. Its value, condition, bit,
+ * polarity, disagree and pulses are 0, and so is its place, but for a job's 7, 3 and 9.
  */
 #ifndef OTP_H
 #define OTP_H
@@ -72,8 +72,16 @@ enum { OTP_SECURE = 0, OTP_NONSECURE = 1 };
 /* Levels of a lock. */
 enum { OTP_READ_WRITE = 0, OTP_READ_ONLY = 1, OTP_NO_ACCESS = 2 };
 
-/* Conditions of an ECC read. */
-enum { OTP_CLEAN = 0, OTP_REPAIRED = 1 };
+/* Conditions of an ECC read. A row is flag worn where its flag bits, 23 and 22, disagree and it still decodes. */
+enum {
+    OTP_CLEAN = 0,             /* no bit repaired, and the flag bits agree */
+    OTP_REPAIRED = 1,          /* one worn or stray bit among bits 21:0 repaired, and the flag bits agree */
+    OTP_FLAG_WORN = 2,         /* the flag bits disagree, and no bit is repaired */
+    OTP_FLAG_WORN_REPAIRED = 3 /* the flag bits disagree, and a bit is repaired */
+};
+
+/* Polarities of a row: inverted exactly if bits 23 and 22 are both set. */
+enum { OTP_PLAIN = 0, OTP_INVERTED = 1 };
 
 /* Numbers. */
 enum {
@@ -96,8 +104,10 @@ enum {
 typedef struct {
     uint32_t number;    /* OTP_DONE, any other is a refusal */
     uint32_t value;     /* what a read or a vote found, or the level that a show shows */
-    uint32_t condition; /* of an ECC read: OTP_CLEAN, or OTP_REPAIRED, which is a row with one worn or stray bit */
-    uint32_t bit;       /* the repaired bit, 0 to 21, as it is numbered in the row; 0 where clean */
+    uint32_t condition; /* of an ECC read: OTP_CLEAN, OTP_REPAIRED, OTP_FLAG_WORN or OTP_FLAG_WORN_REPAIRED */
+    uint32_t bit;       /* the repaired bit, 0 to 21, as it is numbered in the row; 0 where none is repaired */
+    uint32_t polarity;  /* of an ECC read: OTP_PLAIN or OTP_INVERTED, as the row was read */
+    uint32_t disagree;  /* of an ECC read: 1 where bits 23 and 22 of the row disagree, else 0 */
     uint32_t place;     /* of a job: entries are counted from 0. Done, how many leading entries stand whole; refused with 7, 3 or 9,
                            the entry that is refused */
     uint32_t pulses;    /* of a write, a job or a rehearsal: how many bits it newly set */
@@ -143,7 +153,9 @@ OTP_FIRST(otp_answer, number);
 OTP_NEXT(otp_answer, number, value);
 OTP_NEXT(otp_answer, value, condition);
 OTP_NEXT(otp_answer, condition, bit);
-OTP_NEXT(otp_answer, bit, place);
+OTP_NEXT(otp_answer, bit, polarity);
+OTP_NEXT(otp_answer, polarity, disagree);
+OTP_NEXT(otp_answer, disagree, place);
 OTP_NEXT(otp_answer, place, pulses);
 OTP_LAST(otp_answer, pulses);
 
@@ -183,7 +195,8 @@ otp_outcome otp_reset(const uint32_t *rows, uint64_t rows_len, otp_state state);
 otp_answer  otp_read_raw(const uint32_t *rows, uint64_t rows_len, otp_state state, uint32_t caller, uint32_t row);
 
 /* Reads the 16 bits of a row with ECC. One wrong bit among bits 21:0 is repaired in the answer, and the condition and bit say which;
-   the row itself is left. Numbers 0, 1, 4, 2, 5, 6, 7, 3, 8. */
+   the row itself is left. Where bits 23 and 22 disagree the row is read as plain: a plain row with a stray flag bit still decodes and is
+   flag worn, an inverted row that lost a flag bit is refused with 8. Numbers 0, 1, 4, 2, 5, 6, 7, 3, 8. */
 otp_answer  otp_read_ecc(const uint32_t *rows, uint64_t rows_len, otp_state state, uint32_t caller, uint32_t row);
 
 /* Reads the vote of 3 or 8 rows, the first of them `row`. A bit is set if at least two of three rows have it, or three of eight.

@@ -1,6 +1,5 @@
 //! The calls on rows: for each a ladder of refusals in the order of document 01's table, and what is done at its foot.
 
-use crate::code::Near;
 use crate::fault::Fault;
 use crate::keys::hidden;
 use crate::ladder::need;
@@ -8,6 +7,7 @@ use crate::model::Model;
 use crate::permission::{may_read, may_write};
 use crate::row::{newly_set, vote};
 use crate::shape::{Answer, State, CALLERS, LARGEST, LOCK_ROWS, ROWS};
+use crate::wear::decoded;
 
 impl Model {
     /// The refusals that one row meets once its number is good: 6, 7, 3. Gives the row's entry.
@@ -35,13 +35,14 @@ impl Model {
         self.entry_to_read(rows, state, caller, row)
     }
 
-    pub fn ecc_read(&self, rows: &[u32], state: &State, caller: u32, row: u32) -> Result<Near, u32> {
+    pub fn ecc_read(&self, rows: &[u32], state: &State, caller: u32, row: u32) -> Result<Answer, u32> {
         need(rows.len() == ROWS, 1)?;
         need(caller < CALLERS, 4)?;
         need(row <= 4095, 2)?;
         need(row < LOCK_ROWS, 5)?;
         let entry = self.entry_to_read(rows, state, caller, row)?;
-        self.codes.decode(entry).ok_or(8)
+        let near = self.codes.decode(entry).ok_or(8u32)?;
+        Ok(decoded(entry, near))
     }
 
     pub fn vote(&self, rows: &[u32], state: &State, caller: u32, row: u32, count: u32) -> Result<u32, u32> {

@@ -1,7 +1,6 @@
 //! The model behind the trait that the library is seen through: each call done, or refused and nothing changed.
 
 use crate::call::{Call, Chip};
-use crate::code::Near;
 use crate::model::Model;
 use crate::shape::{Answer, Outcome, State};
 
@@ -13,15 +12,6 @@ fn changed(state: State) -> Outcome {
     }
 }
 
-/// What an ECC read tells of the value that it found.
-fn found(near: Near) -> Answer {
-    Answer {
-        condition: u32::from(near.repaired.is_some()),
-        bit: u32::from(near.repaired.unwrap_or(0)),
-        ..Answer::value(u32::from(near.value))
-    }
-}
-
 impl Chip for Model {
     fn make(&self, call: &Call, rows: &mut [u32], state: State) -> Outcome {
         let kept = |answer| Outcome { answer, state };
@@ -29,7 +19,7 @@ impl Chip for Model {
         let done = match *call {
             Call::Reset {} => self.latched(rows, &state).map(changed),
             Call::ReadRaw { caller, row } => self.raw_read(rows, &state, caller, row).map(value),
-            Call::ReadEcc { caller, row } => self.ecc_read(rows, &state, caller, row).map(found).map(kept),
+            Call::ReadEcc { caller, row } => self.ecc_read(rows, &state, caller, row).map(kept),
             Call::ReadVote { caller, row, count } => self.vote(rows, &state, caller, row, count).map(value),
             Call::WriteRaw { caller, row, value } => self
                 .raw_write(rows, &state, caller, row, value)

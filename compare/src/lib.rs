@@ -1,7 +1,7 @@
 //! A second reading of document 01, and the means to compare it with the library.
 //!
 //! `call` has the list of the calls and `shape` the fields of what goes into them and comes back.
-//! The model goes in one line, from the row up: `row`, `code`, `locks`, `keys`, `permission`, `model`, `access`,
+//! The model goes in one line, from the row up: `row`, `code`, `wear`, `locks`, `keys`, `permission`, `model`, `access`,
 //! `latches`, `jobs`, `calls`. Each uses only those before it, and what has no rule in it; `tests/line.rs` sees to it.
 //! The library is in `face`, behind the child process of `driver`.
 //! `plain` is for timings alone, and is not there when the comparison is built.
@@ -23,6 +23,7 @@ pub mod locks;
 pub mod model;
 pub mod permission;
 pub mod row;
+pub mod wear;
 
 #[cfg(any(feature = "timings", feature = "self-test"))]
 pub mod plain;

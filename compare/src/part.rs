@@ -99,6 +99,11 @@ macro_rules! shape {
             $(pub $field: $type,)*
         }
 
+        impl $shape {
+            /// The names of its fields, in their order.
+            pub const FIELDS: &[&str] = &[$(stringify!($field),)*];
+        }
+
         impl Default for $shape {
             fn default() -> $shape {
                 $shape::BLANK

@@ -16,20 +16,33 @@ pub const NONSECURE: u32 = 1;
 pub const CALLERS: u32 = 2;
 pub const DOMAINS: u32 = 2;
 
+/// The conditions of an ECC read.
+pub const CLEAN: u32 = 0;
+pub const REPAIRED: u32 = 1;
+pub const FLAG_WORN: u32 = 2;
+pub const FLAG_WORN_REPAIRED: u32 = 3;
+
+/// The polarities of a row.
+pub const PLAIN: u32 = 0;
+pub const INVERTED: u32 = 1;
+
 shape! {
-    /// What every call answers. The condition is 0 for clean and 1 for repaired; the bit is 0 where clean.
+    /// What every call answers. The bit is 0 where none was repaired; disagree is 1 where bits 23 and 22 of a row that was
+    /// read with ECC disagreed, else 0.
     Answer {
         number: u32,
         value: u32,
         condition: u32,
         bit: u32,
+        polarity: u32,
+        disagree: u32,
         place: u32,
         pulses: u32,
     }
 }
 
 impl Answer {
-    /// A refusal: a number, and nothing else.
+    /// A refusal: a number, and nothing else, so plain and agreeing.
     pub fn refused(number: u32) -> Answer {
         Answer {
             number,

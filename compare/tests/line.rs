@@ -2,7 +2,7 @@
 
 use std::fs;
 
-const LINE: [&str; 15] = [
+const LINE: [&str; 16] = [
     "part",
     "shape",
     "call",
@@ -10,6 +10,7 @@ const LINE: [&str; 15] = [
     "ladder",
     "row",
     "code",
+    "wear",
     "locks",
     "keys",
     "permission",

@@ -2,7 +2,7 @@
 
 use compare::call::{Call, Chip};
 use compare::model::Model;
-use compare::shape::{Answer, State, LARGEST, ROWS};
+use compare::shape::{Answer, State, INVERTED, LARGEST, REPAIRED, ROWS};
 
 const ROW: u32 = 0x0c0;
 const JOB: [u8; 13] = [
@@ -38,9 +38,16 @@ fn clean(value: u32) -> Answer {
 
 fn repaired(value: u32, bit: u32) -> Answer {
     Answer {
-        condition: 1,
+        condition: REPAIRED,
         bit,
         ..Answer::value(value)
+    }
+}
+
+fn inverted(answer: Answer) -> Answer {
+    Answer {
+        polarity: INVERTED,
+        ..answer
     }
 }
 
@@ -58,7 +65,7 @@ fn the_twelve_worked_rows() {
     assert_eq!(read(&model, 0x000001), repaired(0, 0));
     assert_eq!(read(&model, 0x000003), Answer::refused(8));
     assert_eq!(read(&model, 0x160000), Answer::refused(8));
-    assert_eq!(read(&model, 0xdcfffe), clean(1));
+    assert_eq!(read(&model, 0xdcfffe), inverted(clean(1)));
     assert_eq!(read(&model, 0x9cfffe), Answer::refused(8));
     assert_eq!(write(&model, 1, 0x000002), (Answer::burnt(0, 19), 0xdcfffe));
     assert_eq!(write(&model, 1, 0x000003), (Answer::refused(9), 0x000003));

@@ -1,7 +1,7 @@
 //! For timings alone: one row, with its code, reading it, voting, and what a write leaves.
 
 use crate::plain::Refusal;
-use crate::shape::{Answer, LARGEST};
+use crate::shape::{Answer, FLAG_WORN, LARGEST, REPAIRED};
 
 const MASKS: [u32; 6] = [0x00ad5b, 0x00366d, 0x00c78e, 0x0007f0, 0x00f800, 0x1fffff];
 
@@ -33,20 +33,31 @@ pub const fn code(value: u16) -> u32 {
 
 /// A row read with ECC.
 pub fn read(row: u32) -> Result<Answer, Refusal> {
-    let upright = if row >> 22 == 3 { row ^ LARGEST } else { row };
+    let (upright, polarity, disagree) = match row >> 22 {
+        3 => (row ^ LARGEST, 1, 0),
+        0 => (row, 0, 0),
+        _ => (row, 0, 1),
+    };
     let bits = upright & 0x3fffff;
+    let whole = Answer {
+        condition: FLAG_WORN * disagree,
+        polarity,
+        disagree,
+        ..Answer::value(bits & 0xffff)
+    };
     let syndrome = (bits ^ code(bits as u16)) >> 16;
     if syndrome == 0 {
-        return Ok(Answer::value(bits & 0xffff));
+        return Ok(whole);
     }
     let place = u32::from(PLACES[syndrome as usize]);
     if place == 22 {
         return Err(8);
     }
     Ok(Answer {
-        condition: 1,
+        value: (bits ^ (1 << place)) & 0xffff,
+        condition: whole.condition + REPAIRED,
         bit: place,
-        ..Answer::value((bits ^ (1 << place)) & 0xffff)
+        ..whole
     })
 }
 
