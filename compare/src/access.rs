@@ -7,7 +7,7 @@ use crate::model::Model;
 use crate::permission::{may_read, may_write};
 use crate::row::{newly_set, vote};
 use crate::shape::{Answer, State, CALLERS, LARGEST, LOCK_ROWS, ROWS};
-use crate::wear::decoded;
+use crate::wear::{decoded, other, undecoded};
 
 impl Model {
     /// The refusals that one row meets once its number is good: 6, 7, 3. Gives the row's entry.
@@ -28,11 +28,12 @@ impl Model {
         self.entry(rows, state, row, may_write(self.fault, state, caller, row))
     }
 
-    pub fn raw_read(&self, rows: &[u32], state: &State, caller: u32, row: u32) -> Result<u32, u32> {
+    pub fn raw_read(&self, rows: &[u32], state: &State, caller: u32, row: u32) -> Result<Answer, u32> {
         need(rows.len() == ROWS, 1)?;
         need(caller < CALLERS, 4)?;
         need(row <= 4095, 2)?;
-        self.entry_to_read(rows, state, caller, row)
+        let entry = self.entry_to_read(rows, state, caller, row)?;
+        Ok(other(self.fault, Fault::RawFlags, entry, Answer::value(entry)))
     }
 
     pub fn ecc_read(&self, rows: &[u32], state: &State, caller: u32, row: u32) -> Result<Answer, u32> {
@@ -41,8 +42,10 @@ impl Model {
         need(row <= 4095, 2)?;
         need(row < LOCK_ROWS, 5)?;
         let entry = self.entry_to_read(rows, state, caller, row)?;
-        let near = self.codes.decode(entry).ok_or(8u32)?;
-        Ok(decoded(entry, near))
+        match self.codes.decode(entry) {
+            Some(near) => Ok(decoded(self.fault, entry, near)),
+            None => undecoded(self.fault, entry),
+        }
     }
 
     pub fn vote(&self, rows: &[u32], state: &State, caller: u32, row: u32, count: u32) -> Result<u32, u32> {
@@ -90,6 +93,7 @@ impl Model {
         let old = rows[row as usize];
         rows[row as usize] = new;
         let counted = if self.has(Fault::PulsesOfTarget) { 0 } else { old };
-        Answer::burnt(0, newly_set(counted, new))
+        let burnt = Answer::burnt(0, newly_set(counted, new));
+        other(self.fault, Fault::WriteFlags, new, burnt)
     }
 }

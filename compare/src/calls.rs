@@ -18,7 +18,7 @@ impl Chip for Model {
         let value = |value| kept(Answer::value(value));
         let done = match *call {
             Call::Reset {} => self.latched(rows, &state).map(changed),
-            Call::ReadRaw { caller, row } => self.raw_read(rows, &state, caller, row).map(value),
+            Call::ReadRaw { caller, row } => self.raw_read(rows, &state, caller, row).map(kept),
             Call::ReadEcc { caller, row } => self.ecc_read(rows, &state, caller, row).map(kept),
             Call::ReadVote { caller, row, count } => self.vote(rows, &state, caller, row, count).map(value),
             Call::WriteRaw { caller, row, value } => self

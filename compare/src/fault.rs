@@ -39,6 +39,17 @@ faults! {
     BurnAsJudged      "burn-as-judged"      "a job burns each entry once judged";
     PlaceAtLimit      "place-at-limit"      "the place counts no entry past the last pulse";
     BitsDownward      "bits-downward"       "within a row bits are burnt downward";
+    PolarityBit23     "polarity-bit-23"     "a read says the polarity of bit 23 alone";
+    PolarityBit22     "polarity-bit-22"     "a read says the polarity of bit 22 alone";
+    InvertedWorn      "inverted-worn"       "an inverted row is flag worn, though its bits agree";
+    WornClean         "worn-clean"          "a row with disagreeing bits is clean";
+    WornRepaired      "worn-repaired"       "a row with disagreeing bits and a repaired bit is repaired alone";
+    WornLosesBit      "worn-loses-bit"      "a row that is flag worn loses its repaired bit";
+    RefusalPolarity   "refusal-polarity"    "a refusal with 8 says the row's polarity";
+    RefusalDisagree   "refusal-disagree"    "a refusal with 8 says that the row's bits disagreed";
+    RawFlags          "raw-flags"           "a raw read says the row's polarity and whether its bits disagree";
+    WriteFlags        "write-flags"         "a write says both of the row that it leaves";
+    WornKey           "worn-key"            "a key row with disagreeing bits does not decode";
 }
 
 /// The fault of a name.

@@ -4,6 +4,7 @@ use crate::code::Codes;
 use crate::fault::Fault;
 use crate::row::bit;
 use crate::shape::{Key, State};
+use crate::wear::disagree;
 
 const KEY_ROWS: u32 = 0xf48;
 const VALID_ROWS: u32 = 0xf78;
@@ -36,13 +37,15 @@ pub fn words(bytes: &[u8]) -> [u16; 8] {
 }
 
 /// Latches key k. A row that does not decode leaves word 0 and a key that is not whole.
-pub fn latch_key(codes: &Codes, rows: &[u32], k: u32) -> Key {
+pub fn latch_key(fault: Option<Fault>, codes: &Codes, rows: &[u32], k: u32) -> Key {
     let mut key = Key {
         whole: true,
         ..Key::default()
     };
     for i in 0..8 {
-        match codes.decode(rows[first_row(k) as usize + i]) {
+        let row = rows[first_row(k) as usize + i];
+        match codes.decode(row) {
+            Some(_) if fault == Some(Fault::WornKey) && disagree(row) => key.whole = false,
             Some(near) => key.words[i] = near.value,
             None => key.whole = false,
         }

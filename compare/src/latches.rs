@@ -16,7 +16,7 @@ impl Model {
             latch(rows, page, &mut state);
         }
         for k in 1..=6 {
-            state.keys[k as usize - 1] = latch_key(&self.codes, rows, k);
+            state.keys[k as usize - 1] = latch_key(self.fault, &self.codes, rows, k);
         }
         if self.has(Fault::EnteredKept) {
             state.entered = before.entered;
