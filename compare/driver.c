@@ -10,7 +10,10 @@
  *     reply       count of entries, the answer (32 bytes), the state if the call gives one back, then the entries (place, value)
  *                 that the call changed
  *
- * The whole image is looked at after each call, so a change to an entry that the call was not lent is told too. A request that is
+ * One request is for many calls, READ_EACH: a row is read with ECC once for each of many entries in it, which go up by one. Its
+ * arguments are the caller, the row, the first entry and how many. Its reply has as many answers, and the row is left as it was.
+ *
+ * The whole image is looked at after each request, so a change to an entry that the call was not lent is told too. A request that is
  * none of these ends the program with one line and 1.
  *
  *     rt staticlib otp
@@ -22,10 +25,13 @@
 #include <stdlib.h>
 #include <string.h>
 
-enum { ENTRIES = 8192, MOST_BYTES = 65536, PIPE = 1 << 16 };
+enum { ENTRIES = 8192, MOST_BYTES = 65536, MOST_ANSWERS = 65536, PIPE = 1 << 16 };
 
 /* The calls, in the order of the list in src/call.rs: tests/driver.rs holds the two to each other. */
 typedef enum { RESET, READ_RAW, READ_ECC, READ_VOTE, WRITE_RAW, WRITE_ECC, ADVANCE, SHOW, ENTER_KEY, RUN_JOB, REHEARSE } call;
+
+/* The same as in src/driver.rs, and no place in the list. */
+enum { READ_EACH = 0x10000 };
 
 typedef struct {
     uint32_t call;
@@ -54,6 +60,7 @@ static uint32_t image[ENTRIES];
 static uint32_t before[ENTRIES];
 
 static entry entries[ENTRIES];
+static otp_answer answers[MOST_ANSWERS];
 static uint8_t bytes[MOST_BYTES];
 
 _Noreturn static void stop(const char *why)
@@ -167,19 +174,44 @@ static size_t make(const request *r, otp_outcome *made)
     stop("there is no such call");
 }
 
-/* Makes the call and writes the reply. */
-static void reply(const request *r)
+/* Writes the reply: what came back, and the entries that changed. */
+static void tell(const void *back, size_t size)
 {
-    otp_outcome made;
-    size_t size = make(r, &made);
     uint32_t count = changed();
 
     give(&count, sizeof count, 1);
-    give(&made, size, 1);
+    give(back, size, 1);
     give(entries, sizeof *entries, count);
     if (fflush(stdout) != 0) {
         stop("a reply cannot be written");
     }
+}
+
+static void reply(const request *r)
+{
+    otp_outcome made;
+    size_t size = make(r, &made);
+
+    tell(&made, size);
+}
+
+static void reply_each(const request *r)
+{
+    uint32_t caller = r->arguments[0], row = r->arguments[1], first = r->arguments[2], count = r->arguments[3];
+
+    if (row >= ENTRIES || count == 0 || count > MOST_ANSWERS) {
+        stop("a request for many reads is out of range");
+    }
+    for (uint32_t i = 0; i < count; i++) {
+        image[row] = first + i;
+        answers[i] = otp_read_ecc(image, r->rows_len, r->state, caller, row);
+        /* Seen here, since the next entry would hide it. */
+        if (image[row] != first + i) {
+            stop("a read changed its row");
+        }
+    }
+    image[row] = before[row];
+    tell(answers, count * sizeof *answers);
 }
 
 int main(void)
@@ -191,7 +223,11 @@ int main(void)
     setvbuf(stdout, out, _IOFBF, sizeof out);
     while (next(&asked)) {
         lay(asked.entries);
-        reply(&asked);
+        if (asked.call == READ_EACH) {
+            reply_each(&asked);
+        } else {
+            reply(&asked);
+        }
     }
     return 0;
 }

@@ -2,13 +2,25 @@
 //! can give. A new call is a new line of it: the compiler then asks for it wherever one call is told from another.
 
 use std::fmt;
+use std::ops::Range;
 
-use crate::shape::{Outcome, State};
+use crate::shape::{Answer, Outcome, State, ROWS, SECURE};
 
 /// What makes calls: the library, the model.
 pub trait Chip {
     /// Makes a call. One that cannot change the state gives it back as it was passed.
     fn make(&self, call: &Call, rows: &mut [u32], state: State) -> Outcome;
+
+    /// Reads a row with ECC once for each of these entries in it: as Secure, on a chip that is blank otherwise.
+    fn read_each(&self, row: u32, entries: Range<u32>) -> Vec<Answer> {
+        let mut rows = vec![0; ROWS];
+        let call = Call::ReadEcc { caller: SECURE, row };
+        let read = |entry| {
+            rows[row as usize] = entry;
+            self.make(&call, &mut rows, State::blank()).answer
+        };
+        entries.map(read).collect()
+    }
 }
 
 /// For what a call is lent the rows, if it is.

@@ -2,22 +2,28 @@
 //! What goes through the pipe is written down in `driver.c`.
 
 use std::io::{self, BufReader, Read, Write};
+use std::ops::Range;
 use std::process::{Child, ChildStdin, ChildStdout, Command, Stdio};
 
 use crate::call::{Back, Call};
 use crate::part::Part;
-use crate::shape::{Answer, State};
+use crate::shape::{Answer, State, ROWS, SECURE};
 
 /// How many entries the driver's image has.
 const IMAGE: usize = 8192;
 /// Room for a reply with some thousand entries.
 const BUFFER: usize = 1 << 16;
+/// In place of a call: one row read once for each of many entries in it.
+const READ_EACH: usize = 0x1_0000;
+
+/// Entries of the image that became another number.
+pub type Changed = Vec<(usize, u32)>;
 
 /// What came back: the state is there if the call gives one back.
 pub struct Reply {
     pub answer: Answer,
     pub state: Option<State>,
-    pub changed: Vec<(usize, u32)>,
+    pub changed: Changed,
 }
 
 pub struct Driver {
@@ -57,20 +63,43 @@ impl Driver {
 
     /// Makes one call on these rows.
     pub fn ask(&mut self, call: &Call, rows: &[u32], state: &State) -> Result<Reply, String> {
-        self.write_down(call, rows, state);
-        let sent = self.send();
-        sent.map_err(|error| self.lost(error))?;
+        self.send(call.index(), call.numbers(), call.bytes(), rows, state)?;
         self.receive(call.kind().back)
     }
 
+    /// Reads a row with ECC for each of these entries in it, as Secure, on a chip that is blank otherwise.
+    pub fn ask_each(&mut self, row: u32, entries: Range<u32>) -> Result<(Vec<Answer>, Changed), String> {
+        let arguments = [SECURE, row, entries.start, entries.len() as u32];
+        self.send(READ_EACH, arguments, &[], &[0; ROWS], &State::blank())?;
+        let count: u32 = self.read()?;
+        let answers = entries.map(|_| self.read()).collect::<Result<_, _>>()?;
+        Ok((answers, self.receive_changed(count)?))
+    }
+
+    fn send(
+        &mut self,
+        call: usize,
+        numbers: [u32; 4],
+        bytes: &[u8],
+        rows: &[u32],
+        state: &State,
+    ) -> Result<(), String> {
+        self.write_down(call, numbers, bytes, rows, state);
+        let sent = match &mut self.input {
+            Some(input) => input.write_all(&self.request),
+            None => Err(io::ErrorKind::BrokenPipe.into()),
+        };
+        sent.map_err(|error| self.lost(error))
+    }
+
     /// The request's bytes. Only the entries that the driver's image lacks are among them.
-    fn write_down(&mut self, call: &Call, rows: &[u32], state: &State) {
+    fn write_down(&mut self, call: usize, numbers: [u32; 4], bytes: &[u8], rows: &[u32], state: &State) {
         let differ: Vec<usize> = differences(rows, &self.image);
         self.request.clear();
-        for count in [call.index(), rows.len(), differ.len(), call.bytes().len()] {
+        for count in [call, rows.len(), differ.len(), bytes.len()] {
             (count as u32).put(&mut self.request);
         }
-        for number in call.numbers() {
+        for number in numbers {
             number.put(&mut self.request);
         }
         state.put(&mut self.request);
@@ -79,14 +108,7 @@ impl Driver {
             (place as u32).put(&mut self.request);
             rows[place].put(&mut self.request);
         }
-        self.request.extend(call.bytes());
-    }
-
-    fn send(&mut self) -> io::Result<()> {
-        match &mut self.input {
-            Some(input) => input.write_all(&self.request),
-            None => Err(io::ErrorKind::BrokenPipe.into()),
-        }
+        self.request.extend(bytes);
     }
 
     fn receive(&mut self, back: Back) -> Result<Reply, String> {
@@ -96,6 +118,11 @@ impl Driver {
             Back::State => Some(self.read()?),
             Back::Answer => None,
         };
+        let changed = self.receive_changed(count)?;
+        Ok(Reply { answer, state, changed })
+    }
+
+    fn receive_changed(&mut self, count: u32) -> Result<Changed, String> {
         let mut changed = Vec::new();
         for _ in 0..count {
             let place = self.read::<u32>()? as usize;
@@ -107,7 +134,7 @@ impl Driver {
             *entry = value;
             changed.push((place, value));
         }
-        Ok(Reply { answer, state, changed })
+        Ok(changed)
     }
 
     fn read<T: Part>(&mut self) -> Result<T, String> {

@@ -2,13 +2,38 @@
 
 use crate::bench::Difference;
 use crate::call::{Call, Chip};
-use crate::shape::{State, LARGEST, ROWS};
+use crate::part::Part;
+use crate::shape::{State, LARGEST, ROWS, SECURE};
 
 /// The row used: any page without locks would do.
 const ROW: u32 = 0x0c0;
+/// How many row values are read with one request: as many as the driver takes.
+const BLOCK: u32 = 0x1_0000;
 
-/// Compares them all, and gives how many calls that was.
-pub fn every_row(library: &dyn Chip, model: &dyn Chip) -> Result<u64, Difference> {
+/// Compares the reads, and gives how many calls that was.
+pub fn every_read(library: &dyn Chip, model: &dyn Chip) -> Result<u64, Difference> {
+    let mut calls = 0;
+    for first in (0..=LARGEST).step_by(BLOCK as usize) {
+        let block = first..first + BLOCK;
+        let theirs = library.read_each(ROW, block.clone());
+        let ours = model.read_each(ROW, block.clone());
+        for (entry, (theirs, ours)) in block.zip(theirs.iter().zip(&ours)) {
+            calls += 1;
+            if theirs != ours {
+                let found = theirs.differs(ours, "answer").unwrap_or_default();
+                let call = Call::ReadEcc {
+                    caller: SECURE,
+                    row: ROW,
+                };
+                return Err(difference(&call, entry, &found));
+            }
+        }
+    }
+    Ok(calls)
+}
+
+/// Compares the writes, and gives how many calls that was.
+pub fn every_write(library: &dyn Chip, model: &dyn Chip) -> Result<u64, Difference> {
     let mut sides = Sides {
         library,
         model,
@@ -16,13 +41,9 @@ pub fn every_row(library: &dyn Chip, model: &dyn Chip) -> Result<u64, Difference
         ours: vec![0; ROWS],
         calls: 0,
     };
-    let read = Call::ReadEcc { caller: 0, row: ROW };
-    for entry in 0..=LARGEST {
-        sides.compare(&read, entry)?;
-    }
     for value in 0..=0xffff {
         let write = Call::WriteEcc {
-            caller: 0,
+            caller: SECURE,
             row: ROW,
             value,
         };
@@ -32,6 +53,10 @@ pub fn every_row(library: &dyn Chip, model: &dyn Chip) -> Result<u64, Difference
         }
     }
     Ok(sides.calls)
+}
+
+fn difference(call: &Call, entry: u32, found: &str) -> Difference {
+    Difference(format!("differs: {call} (the row held {entry:#08x}): {found}"))
 }
 
 struct Sides<'a> {
@@ -52,9 +77,7 @@ impl Sides<'_> {
         let (left, right) = (self.theirs[ROW as usize], self.ours[ROW as usize]);
         let rows = (left != right).then(|| format!("the row: library {left:#08x}, model {right:#08x}"));
         match theirs.differs(&ours).or(rows) {
-            Some(found) => Err(Difference(format!(
-                "differs: {call} (the row held {entry:#08x}): {found}"
-            ))),
+            Some(found) => Err(difference(call, entry, &found)),
             None => Ok(()),
         }
     }

@@ -2,11 +2,12 @@
 
 use std::cell::{Cell, RefCell};
 use std::env;
+use std::ops::Range;
 use std::process::exit;
 
 use crate::call::{Call, Chip, Lent};
 use crate::driver::Driver;
-use crate::shape::{Outcome, State};
+use crate::shape::{Answer, Outcome, State, SECURE};
 
 /// What the comparison is made with.
 pub const NAME: &str = "libotp.a";
@@ -68,5 +69,14 @@ impl Chip for Library {
             answer: reply.answer,
             state: reply.state.unwrap_or(state),
         }
+    }
+
+    fn read_each(&self, row: u32, entries: Range<u32>) -> Vec<Answer> {
+        self.calls.set(self.calls.get() + entries.len() as u64);
+        let call = Call::ReadEcc { caller: SECURE, row };
+        let reply = self.driver.borrow_mut().ask_each(row, entries);
+        let (answers, changed) = reply.unwrap_or_else(|why| self.fail(&call, &why));
+        self.hold(&call, &changed, 0);
+        answers
     }
 }

@@ -2,6 +2,8 @@
 //! that every other answer says plain and agreeing.
 
 use compare::call::{Call, Chip};
+use compare::every::every_read;
+use compare::fault::Fault;
 use compare::model::Model;
 use compare::shape::{
     Answer, Key, State, CLEAN, FLAG_WORN, FLAG_WORN_REPAIRED, INVERTED, LARGEST, PLAIN, REPAIRED, ROWS,
@@ -146,5 +148,23 @@ fn a_key_is_latched_by_its_values_alone() {
     lost.words[0] = 0;
     for flipped in [1 << 22, 1 << 23] {
         assert_eq!(latched(words, true, flipped), lost, "{flipped:#08x}");
+    }
+}
+
+#[test]
+fn each_slip_of_a_read_is_found_among_all_reads() {
+    let library = Model::sound();
+    assert_eq!(every_read(&library, &Model::sound()).ok(), Some(1 << 24));
+    for slip in [
+        Fault::PolarityBit23,
+        Fault::PolarityBit22,
+        Fault::InvertedWorn,
+        Fault::WornClean,
+        Fault::WornRepaired,
+        Fault::WornLosesBit,
+        Fault::RefusalPolarity,
+        Fault::RefusalDisagree,
+    ] {
+        assert!(every_read(&library, &Model::faulty(slip)).is_err(), "{slip:?}");
     }
 }

@@ -3,7 +3,8 @@
 //!     compare [CALLS] [SEED]                  random and structured calls; 1,000,000 and seed 1 where not given
 //!     compare [CALLS] [SEED] --fault NAME     the same with one fault in the model
 //!     compare [CALLS] [SEED] --faults         each fault in turn: after how many calls is it found?
-//!     compare --every-row                     every row value read with ECC, every value written over near-blank rows
+//!     compare --every-read                    every row value read with ECC
+//!     compare --every-write                   every value written with ECC over near-blank rows
 //!     compare --lock-rows                     every lock row written, by the keys and levels of its word and of pages 62 and 63
 //!
 //! The command of the driver, its words parted by spaces, stands in OTP_DRIVER, or as the first argument of all.
@@ -14,7 +15,8 @@
 use std::process::ExitCode;
 
 use compare::bench::{Bench, Difference};
-use compare::every::every_row;
+use compare::call::Chip;
+use compare::every::{every_read, every_write};
 use compare::face::{self, Library};
 use compare::fault::{named, Fault, FAULTS};
 use compare::lock_rows::every_lock_row;
@@ -27,7 +29,8 @@ struct Wish {
     seed: u64,
     fault: Option<Fault>,
     faults: bool,
-    every_row: bool,
+    every_read: bool,
+    every_write: bool,
     lock_rows: bool,
 }
 
@@ -39,7 +42,8 @@ fn wish() -> Result<Wish, String> {
         seed: 1,
         fault: None,
         faults: false,
-        every_row: false,
+        every_read: false,
+        every_write: false,
         lock_rows: false,
     };
     let mut numbers = Vec::new();
@@ -52,7 +56,8 @@ fn wish() -> Result<Wish, String> {
                 wish.fault = Some(named(&name).ok_or(format!("no fault is named '{name}'"))?);
             }
             "--faults" => wish.faults = true,
-            "--every-row" => wish.every_row = true,
+            "--every-read" => wish.every_read = true,
+            "--every-write" => wish.every_write = true,
             "--lock-rows" => wish.lock_rows = true,
             _ => numbers.push(word.parse::<u64>().map_err(|_| format!("not understood: '{word}'"))?),
         }
@@ -101,9 +106,15 @@ fn faults(wish: &Wish, library: &Library, sound: &Model) -> Result<(), String> {
     Ok(())
 }
 
-fn every(wish: &Wish, library: &Library, sound: &Model) -> Result<(), String> {
+/// Every read, or every write.
+fn every(
+    each: fn(&dyn Chip, &dyn Chip) -> Result<u64, Difference>,
+    wish: &Wish,
+    library: &Library,
+    sound: &Model,
+) -> Result<(), String> {
     let model = wish.fault.map_or(sound.clone(), Model::faulty);
-    let calls = every_row(library, &model).map_err(|Difference(line)| line)?;
+    let calls = each(library, &model).map_err(|Difference(line)| line)?;
     println!("{calls} calls compared, 0 differ");
     Ok(())
 }
@@ -135,8 +146,10 @@ fn main() -> ExitCode {
     let sound = Model::sound();
     let done = if wish.faults {
         faults(&wish, &library, &sound)
-    } else if wish.every_row {
-        every(&wish, &library, &sound)
+    } else if wish.every_read {
+        every(every_read, &wish, &library, &sound)
+    } else if wish.every_write {
+        every(every_write, &wish, &library, &sound)
     } else if wish.lock_rows {
         lock_rows(&wish, &library, &sound)
     } else {
