@@ -1,8 +1,9 @@
 /*
  * desk.c: a first program over libotp.a, for the author of a desk's firmware.
  *
- * On an image of a blank chip it keeps a screen's width in a row, reads it with a worn bit, and locks its page. On a second blank chip
- * it rehearses a job up to a power cut, and then runs it. It prints what happens, and exits 1 where that is not what document 01 says.
+ * On an image of a blank chip it keeps a screen's width in a row, reads it with a worn bit and with a worn flag, and locks its page. On a
+ * second blank chip it rehearses a job up to a power cut, and then runs it. It prints what happens, and exits 1 where that is not what
+ * document 01 and its requests say.
  *
  *     rt staticlib otp
  *     cc -std=c11 -Iinclude examples/desk.c target/staticlib/libotp.a -o target/desk
@@ -49,19 +50,37 @@ static otp_state write_width(otp_state state)
     return out.state;
 }
 
-/* The desk reads as Non-secure. Where a bit had to be repaired, the answer says which. */
+/* A row that is not clean still has its value: it is time to look at the board. Where a bit had to be repaired, the answer says which. */
+static void print_condition(otp_answer got)
+{
+    printf("%s, ", got.polarity == OTP_INVERTED ? "inverted" : "plain");
+    switch (got.condition) {
+    case OTP_CLEAN:
+        printf("clean\n");
+        break;
+    case OTP_REPAIRED:
+        printf("repaired bit %u\n", (unsigned)got.bit);
+        break;
+    case OTP_FLAG_WORN:
+        printf("flag worn\n");
+        break;
+    default:
+        printf("flag worn, repaired bit %u\n", (unsigned)got.bit);
+    }
+}
+
+/* The desk reads as Non-secure. */
 static void read_width(otp_state state, uint32_t condition, uint32_t bit)
 {
     otp_answer got = otp_read_ecc(rows, OTP_ROWS, state, OTP_NONSECURE, ROW);
     printf("width read from 0x%06x: number %u, value %u, ", (unsigned)rows[ROW], (unsigned)got.number, (unsigned)got.value);
-    if (got.condition == OTP_CLEAN)
-        printf("clean\n");
-    else
-        printf("repaired bit %u\n", (unsigned)got.bit);
+    print_condition(got);
     expect("the number of the read", got.number, OTP_DONE);
     expect("the width", got.value, WIDTH);
     expect("the condition", got.condition, condition);
     expect("the repaired bit", got.bit, bit);
+    expect("the polarity", got.polarity, OTP_PLAIN);
+    expect("whether bits 23 and 22 disagree", got.disagree, condition >= OTP_FLAG_WORN);
 }
 
 /* Locks the page against writing until the next reset. */
@@ -85,7 +104,7 @@ static void refused_write(otp_state state)
     expect("the row after the refusal", rows[ROW], before);
 }
 
-/* One width, written, read, read with a worn bit, and locked. */
+/* One width, written, read, read with a worn bit, read with a worn flag too, and locked. */
 static void keep_a_width(void)
 {
     otp_state state = write_width(blank_chip());
@@ -93,6 +112,9 @@ static void keep_a_width(void)
     rows[ROW] &= ~(UINT32_C(1) << 8);
     printf("bit 8 wears away\n");
     read_width(state, OTP_REPAIRED, 8);
+    rows[ROW] |= UINT32_C(1) << 22;
+    printf("bit 22 comes of itself\n");
+    read_width(state, OTP_FLAG_WORN_REPAIRED, 8);
     refused_write(lock_page(state));
 }
 
