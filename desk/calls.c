@@ -1,11 +1,12 @@
 /* Calls made by chance on libotp.a, so that two builds of it can be compared: one source, one seed, the same lines on every machine.
 
-   Sequences of calls on one chip, with the state carried on: rows, keys and locks are burnt by the calls themselves, and now and then an
-   entry, a state or an argument is put in that no chip would have. A checksum goes on over every answer, state and row. It is printed
-   every EVERY calls, so two outputs part within as many calls of where the builds do. At the end comes how often each call gave each
-   number; a number that a call can give and never gave is an error. Compile with -DEVERY=1 to see the very call. */
+   Sequences of calls on one chip, with the state carried on: rows, keys and locks are burnt by the calls themselves and wear, and now and
+   then an entry, a state or an argument is put in that no chip would have. A checksum goes on over every answer, state and row. It is
+   printed every EVERY calls, so two outputs part within as many calls of where the builds do. At the end comes the tally of tally.h.
+   Compile with -DEVERY=1 to see the very call. */
 #include "chance.h"
 #include "otp.h"
+#include "tally.h"
 
 #include <stdio.h>
 #include <string.h>
@@ -17,27 +18,8 @@
 #define EVERY 1000
 #endif
 
-enum { RESET, READ_RAW, READ_ECC, READ_VOTE, WRITE_RAW, WRITE_ECC, ADVANCE, SHOW, ENTER_KEY, RUN_JOB, REHEARSE, KINDS, NUMBERS = 12 };
-
 /* Entries past the rows, which no call may change. */
 enum { PAST = 8 };
-
-/* Each kind of call, and the numbers that it can give: digits in base 16, in the header's order. */
-static const struct {
-    const char *name, *numbers;
-} kinds[KINDS] = {
-    {"reset", "013"},
-    {"read raw", "0142673"},
-    {"read ECC", "014256738"},
-    {"read vote", "01425673"},
-    {"write raw", "0142673"},
-    {"write ECC", "014256739"},
-    {"advance", "047"},
-    {"show", "04"},
-    {"enter key", "047"},
-    {"run job", "01ab739"},
-    {"rehearse", "01ab739"},
-};
 
 /* The chip: its rows and a few entries past them, its state, and the last answer. */
 static uint32_t rows[OTP_ROWS + PAST];
@@ -45,7 +27,7 @@ static otp_state state;
 static otp_answer answer;
 
 static uint8_t key[OTP_KEY_BYTES];
-static uint32_t tally[KINDS][NUMBERS], made, checksum = 2166136261u;
+static uint32_t made, checksum = 2166136261u;
 
 /* The checksum, taken on by a number or by the bytes of a struct, which have no gaps. */
 static void sum(uint32_t number)
@@ -73,7 +55,7 @@ static void took(uint32_t kind)
     sum_bytes(&answer, sizeof answer);
     sum_bytes(&state, sizeof state);
     sum_rows();
-    tally[kind][answer.number % NUMBERS]++;
+    tally(kind, &answer);
     if (++made % EVERY == 0)
         printf("%6u calls, checksum %08x\n", (unsigned)made, (unsigned)checksum);
 }
@@ -102,6 +84,13 @@ static void enter_some_key(void)
     keep(ENTER_KEY, otp_enter_key(state, caller, given, bytes));
 }
 
+/* Flips a flag bit of a row, another bit, or both, or neither. */
+static void wear(uint32_t row)
+{
+    uint32_t flag = below(3), bit = below(44);
+    rows[row] ^= (flag == 0 ? 0 : 1u << (21 + flag)) | (bit < 22 ? 1u << bit : 0);
+}
+
 static void some_read(void)
 {
     uint32_t caller = some_caller(), row = some_row();
@@ -111,6 +100,8 @@ static void some_read(void)
         keep_answer(READ_RAW, otp_read_raw(rows, length, state, caller, row));
         break;
     case 1:
+        if (row < OTP_ROWS && once_in(4))
+            wear(row);
         keep_answer(READ_ECC, otp_read_ecc(rows, length, state, caller, row));
         break;
     default:
@@ -220,7 +211,15 @@ static void sprinkle(uint32_t count, uint32_t least)
     }
 }
 
-/* A new chip: blank, then perhaps with a key, with locks, with worn rows, with entries that no chip has, or with any state. */
+/* A blank row with a stray bit is what an ECC write is inverted over. */
+static void wear_often_used(void)
+{
+    for (uint32_t i = 0; i < 8; i++)
+        wear(often_used());
+}
+
+/* A new chip: blank, then perhaps with a key, with locks, with stray bits, with rows of any bits, with entries that no chip has, or with
+   any state. */
 static void new_chip(void)
 {
     otp_state start = OTP_START;
@@ -232,6 +231,8 @@ static void new_chip(void)
     if (once_in(2))
         burn_lock(FIRST_LOCK_ROW + 1 + 2 * page, byte);
     if (once_in(2))
+        wear_often_used();
+    if (once_in(2))
         sprinkle(4, 0);
     keep(RESET, otp_reset(rows, OTP_ROWS, state));
     if (once_in(4))
@@ -240,31 +241,12 @@ static void new_chip(void)
         any_state();
 }
 
-/* How often a call gave each number, and whether it gave all that it can. */
-static bool told(uint32_t kind)
-{
-    bool all = true;
-    printf("%-10s", kinds[kind].name);
-    for (uint32_t number = 0; number < NUMBERS; number++) {
-        bool can = strchr(kinds[kind].numbers, "0123456789ab"[number]) != NULL;
-        printf(" %5u", (unsigned)tally[kind][number]);
-        all = all && can == (tally[kind][number] != 0);
-    }
-    printf("\n");
-    return all;
-}
-
 int main(void)
 {
-    bool all = true;
     while (made < CALLS) {
         new_chip();
         for (uint32_t more = 20 + below(40); more > 0; more--)
             some_call();
     }
-    for (uint32_t kind = 0; kind < KINDS; kind++)
-        all = told(kind) && all;
-    if (!all)
-        printf("a call never gave a number that it can give, or gave one that it cannot\n");
-    return all ? 0 : 1;
+    return all_told() ? 0 : 1;
 }

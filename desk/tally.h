@@ -1,0 +1,88 @@
+/* What desk/calls.c counts: how often each call gave each number, and how often an ECC read said each condition. One that can be given and
+   never was is an error, and so is a number that the call cannot give. */
+#ifndef TALLY_H
+#define TALLY_H
+
+#include "otp.h"
+
+#include <stdio.h>
+#include <string.h>
+
+enum { RESET, READ_RAW, READ_ECC, READ_VOTE, WRITE_RAW, WRITE_ECC, ADVANCE, SHOW, ENTER_KEY, RUN_JOB, REHEARSE, KINDS, NUMBERS = 12 };
+
+/* Each kind of call, and the numbers that it can give: digits in base 16, in the header's order. */
+static const struct {
+    const char *name, *numbers;
+} kinds[KINDS] = {
+    {"reset", "013"},
+    {"read raw", "0142673"},
+    {"read ECC", "014256738"},
+    {"read vote", "01425673"},
+    {"write raw", "0142673"},
+    {"write ECC", "014256739"},
+    {"advance", "047"},
+    {"show", "04"},
+    {"enter key", "047"},
+    {"run job", "01ab739"},
+    {"rehearse", "01ab739"},
+};
+
+/* What a done ECC read can say of its row. A row with a worn flag is never inverted. */
+static const struct {
+    const char *name;
+    uint32_t condition, polarity;
+} conditions[] = {
+    {"plain, clean", OTP_CLEAN, OTP_PLAIN},
+    {"plain, repaired", OTP_REPAIRED, OTP_PLAIN},
+    {"inverted, clean", OTP_CLEAN, OTP_INVERTED},
+    {"inverted, repaired", OTP_REPAIRED, OTP_INVERTED},
+    {"flag worn", OTP_FLAG_WORN, OTP_PLAIN},
+    {"flag worn, repaired", OTP_FLAG_WORN_REPAIRED, OTP_PLAIN},
+};
+enum { CONDITIONS = sizeof conditions / sizeof conditions[0] };
+
+static uint32_t gave[KINDS][NUMBERS], said[CONDITIONS];
+
+static void tally(uint32_t kind, const otp_answer *answer)
+{
+    gave[kind][answer->number % NUMBERS]++;
+    if (kind != READ_ECC || answer->number != OTP_DONE)
+        return;
+    for (uint32_t i = 0; i < CONDITIONS; i++)
+        said[i] += answer->condition == conditions[i].condition && answer->polarity == conditions[i].polarity;
+}
+
+/* How often a call gave each number, and whether it gave all that it can and no other. */
+static bool told_numbers(uint32_t kind)
+{
+    bool all = true;
+    printf("%-10s", kinds[kind].name);
+    for (uint32_t number = 0; number < NUMBERS; number++) {
+        bool can = strchr(kinds[kind].numbers, "0123456789ab"[number]) != NULL;
+        printf(" %5u", (unsigned)gave[kind][number]);
+        all = all && can == (gave[kind][number] != 0);
+    }
+    printf("\n");
+    return all;
+}
+
+/* How often an ECC read said a condition, and whether it did. */
+static bool told_condition(uint32_t i)
+{
+    printf("%-20s %5u\n", conditions[i].name, (unsigned)said[i]);
+    return said[i] != 0;
+}
+
+static bool all_told(void)
+{
+    bool all = true;
+    for (uint32_t kind = 0; kind < KINDS; kind++)
+        all = told_numbers(kind) && all;
+    for (uint32_t i = 0; i < CONDITIONS; i++)
+        all = told_condition(i) && all;
+    if (!all)
+        printf("a call never gave a number or a condition that it can give, or gave a number that it cannot\n");
+    return all;
+}
+
+#endif
