@@ -83,7 +83,7 @@ OldCallStays =
 abbrev pub EccReadDone : Chip → Call → Type 0
 EccReadDone chip call = (caller : ℕ) × (row : ℕ) × (call ≡ anEccRead caller row) × (perform chip call .answer .number ≡ 0)
 
--- every other answer says plain and agreeing, which clean does
+-- every other answer says plain and agreeing: it is clean
 abbrev pub OthersPlainAgreeing : Type 0
 OthersPlainAgreeing =
     (chip : Chip) (call : Call) → (EccReadDone chip call → ⊥)

@@ -23,7 +23,7 @@ foundIn polarity value condition =
 
 -- found in a plain row
 abbrev pub found : ℕ → Condition → Answer
-found = foundIn Plain
+found value condition = foundIn Plain value condition
 
 -- any other read or vote returns its value and a show its level; the condition is clean, and plain, outside ECC reads
 abbrev pub told : ℕ → Answer

@@ -1,4 +1,4 @@
--- Reading a row with ECC (document 01, "A row with ECC").
+-- Reading a row with ECC (document 01, "A row with ECC"; request 2026-03 for what is said of polarity and wear).
 use Prim.Native.Nat.{ℕ, zero, suc, _/_, _%_, _^_}
 use mathlib.Core.Bool.{Bool, not}
 use lib.Bits.{bitXor}
