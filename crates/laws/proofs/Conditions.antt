@@ -7,15 +7,15 @@ use mathlib.Core.Path.{_≡_, refl, sym, ap, subst, _∙_}
 use Prim.Native.Nat.{ℕ, _/_, _%_, _^_, _<_}
 use native.Mathlib.Nat.{div-div-eq-div-mul}
 use native.Mathlib.Omega.{arith}
-use borrow.Author.Tests.{eqb-true, eqb-false, not-true, not-false}
+use borrow.Author.Tests.{eqb-true, eqb-false, eq-eqb, not-true, not-false}
 use lib.Bits.{bitXor, xor-self}
-use lib.Dec.{eqb}
+use lib.Dec.{T, eqb}
 use lib.Pow.{pow-pos}
-use Rattle.row.specs.Answers.{refused, found, answered}
+use Rattle.row.specs.Answers.{found}
 use Rattle.row.specs.Choice.{if_then_else_}
 use Rattle.row.specs.Code.{bitAt, code}
 use Rattle.row.specs.Conditions.{conditionNumber, repairedBit, polarityNumber}
-use Rattle.row.specs.Reading.{flippedAt, decoded, bothSet, disagree, flagWorn, polarityOf, saidOf, readRow}
+use Rattle.row.specs.Reading.{flippedAt, bothSet, disagree, saidOf}
 use Rattle.row.specs.declared.answer.Answer.{Answer}
 use Rattle.row.specs.declared.answer.Condition.{Condition}
 use Rattle.row.specs.declared.answer.Condition.the-variants.{Clean, Repaired, FlagWorn, FlagWornRepaired}
@@ -23,9 +23,8 @@ use Rattle.row.specs.declared.answer.Polarity.the-variants.{Plain, Inverted}
 use Rattle.row.proofs.Choices.{both-ways, made-of}
 use Rattle.row.proofs.Syndromes.{xor-cancel-left}
 use Rattle.chip.specs.Slices.{rowAt}
-use Rattle.chip.specs.declared.state.State.{State}
 use Rattle.access.specs.Reads.{readEccNumber, readEcc}
-use Rattle.laws.specs.Calls.{Chip, Call, perform}
+use Rattle.laws.specs.Calls.{perform}
 use Rattle.laws.specs.Conditions.{Whole, FlippedAt, Agree, Says, ConditionExactly, BothSet, PolarityExactly, withoutFlag, dropped, OldReadStays, OldCallStays, OthersPlainAgreeing}
 use Rattle.laws.specs.Reads.{looked}
 use Rattle.laws.proofs.Reading.{Read, read, same-place}
@@ -56,36 +55,41 @@ one-place value a b la lb e =
 
 -- ---- what the condition says
 
+-- two conditions of different numbers are never the same
+never : {a b : Condition} {A : Type 0} → T (not (eqb (conditionNumber a) (conditionNumber b))) → a ≡ b → A
+never {a} {b} differ same =
+    absurd (subst (λ (t : Bool). T (not t)) (eq-eqb (conditionNumber a) (conditionNumber b) (ap conditionNumber same)) differ)
+
 module _ (row value : ℕ) where
   of-whole : Whole row value → (t : Bool) → disagree row ≡ t → Says row value (if t then FlagWorn else Clean)
   of-whole whole false e = record {
     clean = (λ c. (whole, agree row e), λ so. refl);
-    repaired = λ place. (λ c. absurd (omega (arith, ap conditionNumber c)), λ so. absurd (seen value place (sym whole ∙ so .0 .1)));
-    flagWorn = (λ c. absurd (omega (arith, ap conditionNumber c)), λ so. absurd (so .1 (agree row e)));
-    flagWornRepaired = λ place. (λ c. absurd (omega (arith, ap conditionNumber c)), λ so. absurd (so .1 (agree row e)));
+    repaired = λ place. (never tt, λ so. absurd (seen value place (sym whole ∙ so .0 .1)));
+    flagWorn = (never tt, λ so. absurd (so .1 (agree row e)));
+    flagWornRepaired = λ place. (never tt, λ so. absurd (so .1 (agree row e)));
   }
   of-whole whole true e = record {
-    clean = (λ c. absurd (omega (arith, ap conditionNumber c)), λ so. absurd (apart row e (so .1)));
-    repaired = λ place. (λ c. absurd (omega (arith, ap conditionNumber c)), λ so. absurd (apart row e (so .1)));
+    clean = (never tt, λ so. absurd (apart row e (so .1)));
+    repaired = λ place. (never tt, λ so. absurd (apart row e (so .1)));
     flagWorn = (λ c. (whole, apart row e), λ so. refl);
-    flagWornRepaired = λ place. (λ c. absurd (omega (arith, ap conditionNumber c)), λ so. absurd (seen value place (sym whole ∙ so .0 .1)));
+    flagWornRepaired = λ place. (never tt, λ so. absurd (seen value place (sym whole ∙ so .0 .1)));
   }
 
   of-flipped : (own : ℕ) → FlippedAt row value own → (t : Bool) → disagree row ≡ t
       → Says row value (if t then FlagWornRepaired own else Repaired own)
   of-flipped own off false e = record {
-    clean = (λ c. absurd (omega (arith, ap conditionNumber c)), λ so. absurd (seen value own (sym (so .0) ∙ off .1)));
+    clean = (never tt, λ so. absurd (seen value own (sym (so .0) ∙ off .1)));
     repaired = λ place. (
       λ c. (subst (FlippedAt row value) (ap repairedBit c) off, agree row e),
       λ so. ap Repaired (one-place value own place (off .0) (so .0 .0) (sym (off .1) ∙ so .0 .1)),
     );
-    flagWorn = (λ c. absurd (omega (arith, ap conditionNumber c)), λ so. absurd (so .1 (agree row e)));
-    flagWornRepaired = λ place. (λ c. absurd (omega (arith, ap conditionNumber c)), λ so. absurd (so .1 (agree row e)));
+    flagWorn = (never tt, λ so. absurd (so .1 (agree row e)));
+    flagWornRepaired = λ place. (never tt, λ so. absurd (so .1 (agree row e)));
   }
   of-flipped own off true e = record {
-    clean = (λ c. absurd (omega (arith, ap conditionNumber c)), λ so. absurd (apart row e (so .1)));
-    repaired = λ place. (λ c. absurd (omega (arith, ap conditionNumber c)), λ so. absurd (apart row e (so .1)));
-    flagWorn = (λ c. absurd (omega (arith, ap conditionNumber c)), λ so. absurd (seen value own (sym (so .0) ∙ off .1)));
+    clean = (never tt, λ so. absurd (apart row e (so .1)));
+    repaired = λ place. (never tt, λ so. absurd (apart row e (so .1)));
+    flagWorn = (never tt, λ so. absurd (seen value own (sym (so .0) ∙ off .1)));
     flagWornRepaired = λ place. (
       λ c. (subst (FlippedAt row value) (ap repairedBit c) off, apart row e),
       λ so. ap FlagWornRepaired (one-place value own place (off .0) (so .0 .0) (sym (off .1) ∙ so .0 .1)),

@@ -2,13 +2,13 @@
 -- Assumes nothing.
 use mathlib.Core.Bool.{Bool, true, false}
 use mathlib.Core.Path.{_≡_, refl, sym, ap, _∙_}
-use Prim.Native.Nat.{ℕ, _^_, _≤_, _<_}
+use Prim.Native.Nat.{ℕ}
 use native.Mathlib.Omega.{arith}
 use borrow.Author.Tests.{eqb-true, eqb-false}
 use lib.Dec.{eqb}
 use lib.ListN.{set}
 use lib.Seq.{getD-set-same, getD-set-other}
-use Rattle.row.specs.Reading.{flippedAt, decoded, readRow}
+use Rattle.row.specs.Reading.{flippedAt, decoded}
 use Rattle.row.specs.declared.answer.Answer.{Answer}
 use Rattle.chip.specs.Slices.{rowAt}
 use Rattle.laws.specs.Conditions.{ReadAlike, WornKeyLatches}

@@ -10,7 +10,7 @@ use borrow.Author.Tests.{eqb-true, eqb-false, eq-eqb, ne-eqb}
 use lib.Bits.{bitAnd, bitOr, differ, and-self}
 use lib.Dec.{eqb, eqb→eq}
 use Rattle.row.specs.Answers.{foundIn}
-use Rattle.row.specs.Code.{bitAt, setBits, code, flipped, plain, inverted}
+use Rattle.row.specs.Code.{bitAt, setBits, flipped, plain, inverted}
 use Rattle.row.specs.Reading.{readRow}
 use Rattle.row.specs.Writing.{fits, pulses, burntOver, leftAlone, eccWritten}
 use Rattle.row.specs.declared.answer.Condition.the-variants.{Clean}
