@@ -50,7 +50,8 @@ static otp_state write_width(otp_state state)
     return out.state;
 }
 
-/* A row that is not clean still has its value: it is time to look at the board. Where a bit had to be repaired, the answer says which. */
+/* A row that is repaired or flag worn still has its value, and it is time to look at the board. One that is both has two wrong bits, and its
+   value is not certain. Where a bit had to be repaired, the answer says which. */
 static void print_condition(otp_answer got)
 {
     printf("%s, ", got.polarity == OTP_INVERTED ? "inverted" : "plain");

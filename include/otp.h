@@ -77,7 +77,7 @@ enum {
     OTP_CLEAN = 0,             /* no bit repaired, and the flag bits agree */
     OTP_REPAIRED = 1,          /* one worn or stray bit among bits 21:0 repaired, and the flag bits agree */
     OTP_FLAG_WORN = 2,         /* the flag bits disagree, and no bit is repaired */
-    OTP_FLAG_WORN_REPAIRED = 3 /* the flag bits disagree, and a bit is repaired */
+    OTP_FLAG_WORN_REPAIRED = 3 /* the flag bits disagree, and a bit is repaired: two wrong bits, so the value is not certain */
 };
 
 /* Polarities of a row: inverted exactly if bits 23 and 22 are both set. */
@@ -196,7 +196,8 @@ otp_answer  otp_read_raw(const uint32_t *rows, uint64_t rows_len, otp_state stat
 
 /* Reads the 16 bits of a row with ECC. One wrong bit among bits 21:0 is repaired in the answer, and the condition and bit say which;
    the row itself is left. Where bits 23 and 22 disagree the row is read as plain: a plain row with a stray flag bit still decodes and is
-   flag worn, an inverted row that lost a flag bit is refused with 8. Numbers 0, 1, 4, 2, 5, 6, 7, 3, 8. */
+   flag worn, an inverted row that lost a flag bit is refused with 8. With one wrong bit more either can be read, as OTP_FLAG_WORN_REPAIRED,
+   and the inverted one as another value than it held: do not rely on that value. Numbers 0, 1, 4, 2, 5, 6, 7, 3, 8. */
 otp_answer  otp_read_ecc(const uint32_t *rows, uint64_t rows_len, otp_state state, uint32_t caller, uint32_t row);
 
 /* Reads the vote of 3 or 8 rows, the first of them `row`. A bit is set if at least two of three rows have it, or three of eight.

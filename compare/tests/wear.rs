@@ -99,6 +99,22 @@ fn every_value_with_each_bit_flipped_and_with_a_flag_bit_too() {
     }
 }
 
+/// Two wrong bits are one more than a read can tell: such a row is read, as another value than it held.
+#[test]
+fn an_inverted_row_with_a_lost_flag_and_a_flipped_bit_passes_for_a_worn_plain_row() {
+    let mut chip = OneRow::new();
+    for value in 0..=0xffff {
+        let inverted = chip.model.codes.of(value) ^ LARGEST;
+        for flag in [1 << 22, 1 << 23] {
+            for bit in 0..22 {
+                let read = chip.read(inverted ^ flag ^ 1 << bit);
+                assert_eq!((read.number, read.condition), (0, FLAG_WORN_REPAIRED));
+                assert_ne!(read.value, value);
+            }
+        }
+    }
+}
+
 #[test]
 fn every_other_answer_says_plain_and_agreeing() {
     let mut chip = OneRow::new();

@@ -40,7 +40,10 @@ fn on_rows_of_an_image() {
     print::line(
         b"    refused with 8, and how many rows are clean, worn, damaged or not permitted. It takes all",
     );
-    print::line(b"    rows from FIRST to LAST, or those from 0 to 0xf3f that are not blank.");
+    print::line(
+        b"    rows from FIRST to LAST, or those from 0 to 0xf3f that are not blank. A row that is both flag",
+    );
+    print::line(b"    worn and repaired has two wrong bits, and its value is not certain.");
 }
 
 fn on_other_files() {
