@@ -10,6 +10,7 @@ use lib.Dec.{eqb, ltb}
 use lib.ListN.{length}
 use Rattle.row.specs.Rungs.{firstOf}
 use Rattle.row.proofs.Ladders.{passed}
+use Rattle.chip.specs.Callers.{noCaller}
 use Rattle.chip.specs.Keys.{hidden}
 use Rattle.chip.specs.Pages.{isLockRow}
 use Rattle.chip.specs.Slices.{rowAt, notWhole, tooLarge}
@@ -29,7 +30,7 @@ module _ (rows : List ℕ) where
   unfolding callRungs rowRungs
   call-passed state caller row coded valueTooLarge may e =
       let one = passed (notWhole rows) 0 _ e in
-      let caller-four = passed (ltb 1 caller) 3 _ (one .1) in
+      let caller-four = passed (noCaller caller) 3 _ (one .1) in
       let four = passed valueTooLarge 3 _ (caller-four .1) in
       let two = passed (ltb 4095 row) 1 _ (four .1) in
       let five = passed (coded && isLockRow row) 4 _ (two .1) in
@@ -47,7 +48,7 @@ module _ (rows : List ℕ) where
   unfolding callRungs rowRungs
   call-again state caller row valueTooLarge may again left e same small ok =
       let one = passed (notWhole rows) 0 _ e in
-      let caller-four = passed (ltb 1 caller) 3 _ (one .1) in
+      let caller-four = passed (noCaller caller) 3 _ (one .1) in
       let four = passed valueTooLarge 3 _ (caller-four .1) in
       let two = passed (ltb 4095 row) 1 _ (four .1) in
       let five = passed (isLockRow row) 4 _ (two .1) in
@@ -58,7 +59,7 @@ module _ (rows : List ℕ) where
       → (row + count ≤ length rows) × ((eqb count 3 || eqb count 8) ≡ true)
   vote-passed state caller row count e =
       let one = passed (notWhole rows) 0 _ e in
-      let caller-four = passed (ltb 1 caller) 3 _ (one .1) in
+      let caller-four = passed (noCaller caller) 3 _ (one .1) in
       let four = passed (not (eqb count 3 || eqb count 8)) 3 _ (caller-four .1) in
       let two = passed (ltb 4096 (row + count)) 1 _ (four .1) in
       let long : length rows ≡ 4096 = whole (one .0) in

@@ -4,6 +4,7 @@ use mathlib.Core.Bool.{Bool, true, false, not, _&&_}
 use mathlib.Core.List.{List, [], _∷_}
 use lib.Dec.{ltb}
 use Rattle.row.specs.Rungs.{Rung, _when_}
+use Rattle.chip.specs.Callers.{noCaller}
 use Rattle.chip.specs.Keys.{hidden}
 use Rattle.chip.specs.Pages.{isLockRow}
 use Rattle.chip.specs.Slices.{notWhole, tooLarge}
@@ -26,5 +27,5 @@ noValue = false
 -- a call on one row
 unfoldable pub callRungs : List ℕ → State → ℕ → ℕ → Bool → Bool → Bool → List Rung
 callRungs rows state caller row coded valueTooLarge may =
-    1 when notWhole rows ∷ 4 when ltb 1 caller ∷ 4 when valueTooLarge ∷ 2 when ltb 4095 row ∷ 5 when (coded && isLockRow row)
+    1 when notWhole rows ∷ 4 when noCaller caller ∷ 4 when valueTooLarge ∷ 2 when ltb 4095 row ∷ 5 when (coded && isLockRow row)
     ∷ rowRungs rows state may row

@@ -8,6 +8,7 @@ use Rattle.row.specs.Answers.{told, answered}
 use Rattle.row.specs.Rungs.{Rung, _when_, firstOf}
 use Rattle.row.specs.declared.answer.Answer.{Answer}
 use Rattle.vote.specs.Voting.{threshold, vote}
+use Rattle.chip.specs.Callers.{noCaller}
 use Rattle.chip.specs.Permission.{mayRead}
 use Rattle.chip.specs.Slices.{notWhole}
 use Rattle.chip.specs.declared.state.State.{State}
@@ -23,7 +24,7 @@ groupRungs rows state caller row (suc others) =
 abbrev pub readVoteNumber : List ℕ → State → ℕ → ℕ → ℕ → ℕ
 readVoteNumber rows state caller row count =
     firstOf
-    (1 when notWhole rows ∷ 4 when ltb 1 caller ∷ 4 when not (eqb count 3 || eqb count 8)
+    (1 when notWhole rows ∷ 4 when noCaller caller ∷ 4 when not (eqb count 3 || eqb count 8)
     ∷ 2 when ltb 4096 (row + count) ∷ 5 when ltb 0xf80 (row + count)
     ∷ groupRungs rows state caller row count)
 

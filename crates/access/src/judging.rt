@@ -3,6 +3,7 @@ ghost use mathlib.Core.Path.{_≡_};
 ghost use Rattle.row.specs.Rungs.{firstOf};
 ghost use Rattle.access.specs.Judging as spec;
 use crate::rows::row_at;
+use chip::callers::LAST_CALLER;
 use chip::keys::hidden;
 use chip::pages::Page;
 use chip::state::State;
@@ -39,7 +40,7 @@ pub fn call_number(
     if rows.len() != Page::CHIP_ROWS {
         return 1;
     }
-    if 1 < caller {
+    if LAST_CALLER < caller {
         return 4;
     }
     if too_large {

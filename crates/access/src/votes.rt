@@ -5,6 +5,7 @@ ghost use lib.ListN.{length, take};
 ghost use Rattle.row.specs.Rungs.{firstOf};
 ghost use Rattle.access.specs.Votes as spec;
 use crate::judging::row_number;
+use chip::callers::LAST_CALLER;
 use chip::pages::Page;
 use chip::permission::may_read;
 use chip::state::State;
@@ -39,7 +40,7 @@ fn read_vote_number(rows: &[u32], state: State, caller: u32, row: u32, count: u3
     if rows.len() != Page::CHIP_ROWS {
         return 1;
     }
-    if 1 < caller {
+    if LAST_CALLER < caller {
         return 4;
     }
     if count != 3 {

@@ -2,5 +2,6 @@ pub mod Lists
 pub mod Slices
 pub mod Pages
 pub mod States
+pub mod Callers
 pub mod Keys
 pub mod Permission

@@ -2,20 +2,18 @@
 use Prim.Native.Nat.{ℕ, max}
 use mathlib.Core.Bool.{Bool, _&&_, _||_}
 use lib.Dec.{eqb, leb}
-use Rattle.row.specs.Choice.{if_then_else_}
+use Rattle.chip.specs.Callers.{shownLevel}
 use Rattle.chip.specs.Keys.{keyLevel}
 use Rattle.chip.specs.Pages.{isLockRow, owner, keyPage}
-use Rattle.chip.specs.States.{countedLevel}
 use Rattle.chip.specs.declared.state.State.{State}
 
 -- the key level of a row: that of the page whose key settings it goes by
 abbrev pub rowKeyLevel : State → ℕ → ℕ
 rowKeyLevel state row = keyLevel state (keyPage row)
 
--- the caller's level at a row: Secure is caller 0, Non-secure caller 1
+-- the caller's level at a row
 abbrev pub callerLevel : State → ℕ → ℕ → ℕ
-callerLevel state caller row =
-    if eqb caller 0 then countedLevel (state .secure) (owner row) else countedLevel (state .nonsecure) (owner row)
+callerLevel state caller row = shownLevel state caller (owner row)
 
 -- read: the higher of the caller's level and the key level is at most 1; lock rows are always readable
 unfoldable pub mayRead : State → ℕ → ℕ → Bool
@@ -24,7 +22,7 @@ mayRead state caller row = isLockRow row || leb (max (callerLevel state caller r
 -- write: Secure needs Secure and key level 0; Non-secure, for which Secure makes it, Non-secure, Secure and key level 0
 unfoldable pub mayWrite : State → ℕ → ℕ → Bool
 mayWrite state caller row =
-    eqb (callerLevel state caller row) 0 && eqb (countedLevel (state .secure) (owner row)) 0 && eqb (rowKeyLevel state row) 0
+    eqb (callerLevel state caller row) 0 && eqb (callerLevel state 0 row) 0 && eqb (rowKeyLevel state row) 0
 
 -- two rows that the same levels and the same key settings decide
 abbrev pub sharePermission : ℕ → ℕ → Bool

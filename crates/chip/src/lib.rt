@@ -1,4 +1,5 @@
 // The chip: its pages, the latched state, keys and permission (document 01, "Locks", "Keys", "Permission").
+pub mod callers;
 pub mod keys;
 pub mod pages;
 pub mod permission;

@@ -1,10 +1,11 @@
 // Who may read and write a row (document 01, "Permission").
 ghost use mathlib.Core.Path.{_≡_};
 ghost use Rattle.chip.specs.Permission as spec;
+use crate::callers::SECURE;
+use crate::callers::shown_level;
 use crate::keys::key_level;
 use crate::pages::Page;
 use crate::state::State;
-use crate::state::counted_level;
 
 // The key level of a row: that of the page whose key settings it goes by.
 pub fn row_key_level(state: State, row: u32) -> u32
@@ -17,12 +18,7 @@ pub fn row_key_level(state: State, row: u32) -> u32
 pub fn caller_level(state: State, caller: u32, row: u32) -> u32
     ensures { λ r. ⌜ r ≡ spec.callerLevel state caller row ⌝ }
 {
-    if caller == 0 {
-        let secure = state.secure;
-        return counted_level(secure, Page::owner(row));
-    }
-    let nonsecure = state.nonsecure;
-    counted_level(nonsecure, Page::owner(row))
+    shown_level(state, caller, Page::owner(row))
 }
 
 // Whether a caller may read a row.
@@ -45,7 +41,7 @@ pub fn may_write(state: State, caller: u32, row: u32) -> bool
     if caller_level(state, caller, row) != 0 {
         return false;
     }
-    if caller_level(state, 0, row) != 0 {
+    if caller_level(state, SECURE, row) != 0 {
         return false;
     }
     row_key_level(state, row) == 0

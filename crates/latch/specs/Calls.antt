@@ -8,20 +8,17 @@ use Rattle.row.specs.Answers.{told, done, answered}
 use Rattle.row.specs.Choice.{if_then_else_}
 use Rattle.row.specs.Rungs.{_when_, firstOf}
 use Rattle.row.specs.declared.answer.Answer.{Answer}
+use Rattle.chip.specs.Callers.{noCaller, noDomain, shownLevel}
 use Rattle.chip.specs.Lists.{listed}
-use Rattle.chip.specs.States.{countedLevel, withSecure, withNonsecure, withEntered, outcome}
+use Rattle.chip.specs.States.{withSecure, withNonsecure, withEntered, outcome}
 use Rattle.chip.specs.declared.state.State.{State}
 use Rattle.chip.specs.declared.state.Outcome.{Outcome}
-
--- the counted levels of a lock domain: 0 is Secure, 1 is Non-secure
-abbrev pub shownLevel : State → ℕ → ℕ → ℕ
-shownLevel state domain page = if eqb domain 0 then countedLevel (state .secure) page else countedLevel (state .nonsecure) page
 
 -- advance a lock: Secure may advance both domains, Non-secure only its own
 abbrev pub advanceNumber : ℕ → ℕ → ℕ → ℕ → ℕ
 advanceNumber caller domain page level =
     firstOf
-    (4 when ltb 1 caller ∷ 4 when ltb 1 domain ∷ 4 when ltb 63 page ∷ 4 when ltb 2 level
+    (4 when noCaller caller ∷ 4 when noDomain domain ∷ 4 when ltb 63 page ∷ 4 when ltb 2 level
     ∷ 7 when (eqb caller 1 && eqb domain 0) ∷ [])
 
 -- the state with a page's level in a domain set
@@ -40,14 +37,14 @@ advance state caller domain page level =
 
 -- show a lock: both callers may show any level
 abbrev pub showNumber : ℕ → ℕ → ℕ → ℕ
-showNumber caller domain page = firstOf (4 when ltb 1 caller ∷ 4 when ltb 1 domain ∷ 4 when ltb 63 page ∷ [])
+showNumber caller domain page = firstOf (4 when noCaller caller ∷ 4 when noDomain domain ∷ 4 when ltb 63 page ∷ [])
 
 unfoldable pub showLock : State → ℕ → ℕ → ℕ → Answer
 showLock state caller domain page = answered (showNumber caller domain page) (told (shownLevel state domain page))
 
 -- enter a key: only Secure does, and a key has 16 bytes
 abbrev pub enterNumber : ℕ → List ℕ → ℕ
-enterNumber caller key = firstOf (4 when ltb 1 caller ∷ 4 when not (eqb (length key) 16) ∷ 7 when eqb caller 1 ∷ [])
+enterNumber caller key = firstOf (4 when noCaller caller ∷ 4 when not (eqb (length key) 16) ∷ 7 when eqb caller 1 ∷ [])
 
 -- bytes 0 and 1 stand against the first key row, low byte first, and so on
 abbrev pub keyWords : List ℕ → List ℕ

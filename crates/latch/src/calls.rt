@@ -3,36 +3,26 @@ ghost use mathlib.Core.Path.{_≡_};
 ghost use Prim.Native.Nat.{_≤_};
 ghost use lib.ListN.{length};
 ghost use Rattle.latch.specs.Calls as spec;
+use chip::callers::LAST_CALLER;
+use chip::callers::LAST_DOMAIN;
+use chip::callers::shown_level;
 use chip::pages::Page;
 use chip::state::Outcome;
 use chip::state::State;
-use chip::state::counted_level;
 use chip::state::refusal;
 use row::answer::Answer;
 use row::answer::done;
 use row::answer::refused;
 use row::answer::told;
 
-// The level of a page in a lock domain, as it counts.
-fn shown_level(state: State, domain: u32, page: Page) -> u32
-    ensures { λ r. ⌜ r ≡ spec.shownLevel state domain (page .number) ⌝ }
-{
-    if domain == 0 {
-        let secure = state.secure;
-        return counted_level(secure, page);
-    }
-    let nonsecure = state.nonsecure;
-    counted_level(nonsecure, page)
-}
-
 // The number of an advance.
 fn advance_number(caller: u32, domain: u32, page: u32, level: u32) -> u32
     ensures { λ r. ⌜ r ≡ spec.advanceNumber caller domain page level ⌝ }
 {
-    if 1 < caller {
+    if LAST_CALLER < caller {
         return 4;
     }
-    if 1 < domain {
+    if LAST_DOMAIN < domain {
         return 4;
     }
     if Page::LAST < page {
@@ -87,10 +77,10 @@ fn advanced(state: State, domain: u32, page: u32, level: u32) -> State
 fn show_number(caller: u32, domain: u32, page: u32) -> u32
     ensures { λ r. ⌜ r ≡ spec.showNumber caller domain page ⌝ }
 {
-    if 1 < caller {
+    if LAST_CALLER < caller {
         return 4;
     }
-    if 1 < domain {
+    if LAST_DOMAIN < domain {
         return 4;
     }
     if Page::LAST < page {
@@ -114,7 +104,7 @@ pub fn show(state: State, caller: u32, domain: u32, page: u32) -> Answer
 fn enter_number(caller: u32, key: &[u8]) -> u32
     ensures { λ r. ⌜ r ≡ spec.enterNumber caller (now (key .entry)) ⌝ }
 {
-    if 1 < caller {
+    if LAST_CALLER < caller {
         return 4;
     }
     if key.len() != 16 {

@@ -15,6 +15,7 @@ use Rattle.row.specs.Rungs.{Rung, _when_, firstOf, orElse}
 use Rattle.row.specs.Writing.{eccWritten, rawWritten, neitherFits}
 use Rattle.row.specs.declared.answer.Answer.{Answer}
 use Rattle.row.specs.declared.writing.Written.{Written}
+use Rattle.chip.specs.Callers.{noCaller}
 use Rattle.chip.specs.Keys.{hidden}
 use Rattle.chip.specs.Slices.{rowAt, notWhole, tooLarge}
 use Rattle.chip.specs.Pages.{isLockRow}
@@ -95,7 +96,7 @@ module _ (rows : List ℕ) (state : State) (caller row value : ℕ) where
   below-nine =
       let low : ℕ → Type 0 = λ n. n ≤ 7 in
       both-ways low (notWhole rows) _ _ (lit≤ tt)
-      (both-ways low (ltb 1 caller) _ _ (lit≤ tt)
+      (both-ways low (noCaller caller) _ _ (lit≤ tt)
       (both-ways low (ltb 65535 value) _ _ (lit≤ tt)
       (both-ways low (ltb 4095 row) _ _ (lit≤ tt)
       (both-ways low (isLockRow row) _ _ (lit≤ tt)

@@ -11,6 +11,7 @@ use lib.Dec.{eqb, leb, ltb}
 use lib.ListN.{set}
 use lib.Seq.{getD-set-other}
 use Rattle.row.specs.Choice.{if_then_else_}
+use Rattle.chip.specs.Callers.{noCaller, noDomain, shownLevel}
 use Rattle.chip.specs.Pages.{highLockRow}
 use Rattle.chip.specs.Slices.{rowAt}
 use Rattle.chip.specs.States.{countedLevel, withSecure, withNonsecure}
@@ -18,7 +19,7 @@ use Rattle.chip.specs.declared.state.State.{State}
 use Rattle.chip.specs.declared.state.Outcome.{Outcome}
 use Rattle.latch.specs.Locks.{levelOf, secureField, nonsecureField}
 use Rattle.latch.specs.Resetting.{latched, resetNumber, reset}
-use Rattle.latch.specs.Calls.{shownLevel, advanceNumber, withLevel, advanced, advance, enterNumber, enterKey}
+use Rattle.latch.specs.Calls.{advanceNumber, withLevel, advanced, advance, enterNumber, enterKey}
 use Rattle.laws.specs.Calls.{Chip, Call, aReset, aRawRead, anEccRead, aVote, aRawWrite, anEccWrite, anAdvance, aShow, aKey, aJob, aRehearsal, perform, performAll}
 use Rattle.laws.specs.Promises.{NoReset, NoLockFalls, Burns, SoftLocksFallBack, LevelsFallBack, AdvanceLeavesHigher, AdvanceLeavesOthers}
 use Rattle.laws.proofs.Burning.{burningLatchesNothing}
@@ -52,7 +53,7 @@ none-falls state domain page = le-refl (shownLevel state domain page)
 -- of the two domains, Secure or not, one is advanced and either is shown
 module _ (state : State) (page level : ℕ) where
   abbrev shown : State → Bool → ℕ → ℕ
-  shown s secure at = if secure then countedLevel (s .secure) at else countedLevel (s .nonsecure) at
+  shown s secure at = countedLevel (if secure then s .secure else s .nonsecure) at
 
   abbrev left : Bool → State
   left secure = if secure then withSecure state (set (state .secure) page level) else withNonsecure state (set (state .nonsecure) page level)
@@ -125,8 +126,8 @@ module _ (state : State) (caller domain page level : ℕ) (done : advance state 
 
   in-range : (domain ≤ 1) × (level ≤ 2)
   in-range =
-      let by-caller = passed (ltb 1 caller) 3 _ advance-number in
-      let by-domain = passed (ltb 1 domain) 3 _ (by-caller .1) in
+      let by-caller = passed (noCaller caller) 3 _ advance-number in
+      let by-domain = passed (noDomain domain) 3 _ (by-caller .1) in
       let by-page = passed (ltb 63 page) 3 _ (by-domain .1) in
       (ltb-false 1 domain (by-domain .0), ltb-false 2 level (passed (ltb 2 level) 3 _ (by-page .1) .0))
 

@@ -4,9 +4,8 @@ use mathlib.Core.Bool.{Bool, true, false, _&&_, _||_, and-eq-true-iff}
 use mathlib.Core.Path.{_≡_, refl}
 use borrow.Author.Tests.{eqb-true}
 use lib.Dec.{eqb}
-use Rattle.chip.specs.Pages.{isLockRow, owner}
+use Rattle.chip.specs.Pages.{isLockRow}
 use Rattle.chip.specs.Permission.{rowKeyLevel, callerLevel, mayRead, mayWrite}
-use Rattle.chip.specs.States.{countedLevel}
 use Rattle.laws.specs.Promises.{MayWriteMayRead}
 
 or-true : (t : Bool) → (t || true) ≡ true
@@ -17,7 +16,7 @@ pub mayWriteMayRead : MayWriteMayRead
 unfolding mayWrite mayRead
 mayWriteMayRead state caller row may =
     let own : Bool = eqb (callerLevel state caller row) 0 in
-    let secure : Bool = eqb (countedLevel (state .secure) (owner row)) 0 in
+    let secure : Bool = eqb (callerLevel state 0 row) 0 in
     let key : Bool = eqb (rowKeyLevel state row) 0 in
     let parts = and-eq-true-iff (own && secure) key .0 may in
     let level : callerLevel state caller row ≡ 0 = eqb-true (callerLevel state caller row) 0 (and-eq-true-iff own secure .0 (parts .0) .0) in

@@ -5,11 +5,11 @@ use mathlib.Core.Logic.{_⊎_}
 use mathlib.Core.Path.{_≡_}
 use lib.Dec.{eqb, leb}
 use Rattle.row.specs.Choice.{if_then_else_}
+use Rattle.chip.specs.Callers.{shownLevel}
 use Rattle.chip.specs.Keys.{keyLevel}
 use Rattle.chip.specs.Pages.{firstRow, lowLockRow, highLockRow}
 use Rattle.chip.specs.Permission.{rowKeyLevel, callerLevel, mayRead, mayWrite}
 use Rattle.chip.specs.declared.state.State.{State}
-use Rattle.latch.specs.Calls.{shownLevel}
 
 -- a row of a lock word, the low or the high one
 abbrev pub InWord : ℕ → ℕ → Type 0

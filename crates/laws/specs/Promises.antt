@@ -12,11 +12,12 @@ use Rattle.row.specs.Code.{setBits, plain, inverted}
 use Rattle.row.specs.Rungs.{firstOf}
 use Rattle.row.specs.declared.answer.Condition.the-variants.{Clean}
 use Rattle.row.specs.declared.answer.Polarity.the-variants.{Plain}
+use Rattle.chip.specs.Callers.{shownLevel}
 use Rattle.chip.specs.Pages.{highLockRow}
 use Rattle.chip.specs.Permission.{mayRead, mayWrite}
 use Rattle.chip.specs.Slices.{rowAt}
 use Rattle.chip.specs.declared.state.State.{State}
-use Rattle.latch.specs.Calls.{shownLevel, advance}
+use Rattle.latch.specs.Calls.{advance}
 use Rattle.latch.specs.Locks.{levelOf, secureField, nonsecureField}
 use Rattle.latch.specs.Resetting.{resetNumber, reset}
 use Rattle.access.specs.Reads.{readEccNumber, readEcc}

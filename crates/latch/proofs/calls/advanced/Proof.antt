@@ -5,7 +5,7 @@ use borrow.Author.Tests.{le-leb, lt-leb, eq-eqb, ne-eqb}
 use mathlib.Core.Path.{_≡_, sym, ap, _∙_}
 use mathlib.Core.Bool.{false}
 use lib.Dec.{leb}
-use Rattle.latch.specs.Calls.{shownLevel}
+use Rattle.chip.specs.Callers.{shownLevel}
 use Rattle.latch.proofs.calls.advanced.Statement.{statement}
 use Rattle.latch.proofs.calls.advanced.Tie as tie
 

@@ -1,9 +1,9 @@
--- `latch::calls::shown_level` meets its contract, by the domain and the contract of `counted_level`.
+-- `chip::callers::shown_level` meets its contract, by the domain and the contract of `counted_level`.
 -- Assumes nothing.
 use borrow.Author.Needs.{needs}
 use borrow.Author.Tests.{eq-eqb, ne-eqb}
-use Rattle.latch.proofs.calls.shown_level.Statement.{statement}
-use Rattle.latch.proofs.calls.shown_level.Tie as tie
+use Rattle.chip.proofs.callers.shown_level.Statement.{statement}
+use Rattle.chip.proofs.callers.shown_level.Tie as tie
 
 counted-level-requires : tie.Need-counted-level-requires
 counted-level-requires c κs = search needs

@@ -1,0 +1,24 @@
+-- The callers, and the lock domain of each (document 01, "What the library models" and "Locks").
+use Prim.Native.Nat.{ℕ}
+use mathlib.Core.Bool.{Bool}
+use mathlib.Core.List.{List}
+use lib.Dec.{eqb, ltb}
+use Rattle.row.specs.Choice.{if_then_else_}
+use Rattle.chip.specs.States.{countedLevel}
+use Rattle.chip.specs.declared.state.State.{State}
+
+-- there are two callers: Secure is 0, Non-secure is 1
+abbrev pub noCaller : ℕ → Bool
+noCaller caller = ltb 1 caller
+
+-- each has a lock domain, with the same number
+abbrev pub noDomain : ℕ → Bool
+noDomain domain = noCaller domain
+
+-- the latched levels of a domain
+abbrev pub levelsOf : State → ℕ → List ℕ
+levelsOf state domain = if eqb domain 0 then state .secure else state .nonsecure
+
+-- the level of a page in a domain, as it counts
+abbrev pub shownLevel : State → ℕ → ℕ → ℕ
+shownLevel state domain page = countedLevel (levelsOf state domain) page
