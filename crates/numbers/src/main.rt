@@ -37,10 +37,10 @@ S is the caller Secure (0), N is Non-secure (1). What must be left of rows and s
 
 fn main() {
     legend();
-    let mut input = io::large_buffer();
+    let mut input = [0u8; 131072];
     let count = io::read_full(STDIN_FILENO, &mut input);
     let all = scene::play(&input[..count]);
-    if count == 65536 {
+    if count == input.len() {
         print::text(b"the input may be longer than what was read\n");
     }
     tally::last_line(all);
