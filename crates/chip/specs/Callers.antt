@@ -1,4 +1,4 @@
--- The callers, and the lock domain of each (document 01, "What the library models" and "Locks").
+-- The callers, and the lock domain of each (document 01, "What the library models" and "Locks"; request 2026-05).
 use Prim.Native.Nat.{ℕ}
 use mathlib.Core.Bool.{Bool}
 use mathlib.Core.List.{List}
@@ -7,9 +7,9 @@ use Rattle.row.specs.Choice.{if_then_else_}
 use Rattle.chip.specs.States.{countedLevel}
 use Rattle.chip.specs.declared.state.State.{State}
 
--- there are two callers: Secure is 0, Non-secure is 1
+-- there are three callers: Secure is 0, Non-secure is 1, the bootloader is 2
 abbrev pub noCaller : ℕ → Bool
-noCaller caller = ltb 1 caller
+noCaller caller = ltb 2 caller
 
 -- each has a lock domain, with the same number
 abbrev pub noDomain : ℕ → Bool
@@ -17,7 +17,10 @@ noDomain domain = noCaller domain
 
 -- the latched levels of a domain
 abbrev pub levelsOf : State → ℕ → List ℕ
-levelsOf state domain = if eqb domain 0 then state .secure else state .nonsecure
+levelsOf state domain =
+    if eqb domain 0 then state .secure
+    else if eqb domain 1 then state .nonsecure
+    else state .bootloader
 
 -- the level of a page in a domain, as it counts
 abbrev pub shownLevel : State → ℕ → ℕ → ℕ

@@ -31,6 +31,7 @@ abbrev pub zeros : State
 zeros = record {
   secure = replicate 64 0;
   nonsecure = replicate 64 0;
+  bootloader = replicate 64 0;
   writekey = replicate 64 0;
   readkey = replicate 64 0;
   nokey = replicate 64 false;
@@ -43,6 +44,7 @@ abbrev pub withSecure : State → List ℕ → State
 withSecure s levels = record {
   secure = levels;
   nonsecure = s .nonsecure;
+  bootloader = s .bootloader;
   writekey = s .writekey;
   readkey = s .readkey;
   nokey = s .nokey;
@@ -55,6 +57,7 @@ abbrev pub withNonsecure : State → List ℕ → State
 withNonsecure s levels = record {
   secure = s .secure;
   nonsecure = levels;
+  bootloader = s .bootloader;
   writekey = s .writekey;
   readkey = s .readkey;
   nokey = s .nokey;
@@ -67,6 +70,7 @@ abbrev pub withEntered : State → List ℕ → State
 withEntered s words = record {
   secure = s .secure;
   nonsecure = s .nonsecure;
+  bootloader = s .bootloader;
   writekey = s .writekey;
   readkey = s .readkey;
   nokey = s .nokey;

@@ -1,6 +1,7 @@
-// Who may read and write a row (document 01, "Permission").
+// Who may read and write a row (document 01, "Permission"; request 2026-05).
 ghost use mathlib.Core.Path.{_≡_};
 ghost use Rattle.chip.specs.Permission as spec;
+use crate::callers::BOOTLOADER;
 use crate::callers::SECURE;
 use crate::callers::shown_level;
 use crate::keys::key_level;
@@ -21,6 +22,20 @@ pub fn caller_level(state: State, caller: u32, row: u32) -> u32
     shown_level(state, caller, Page::owner(row))
 }
 
+// The level that a caller reads at: its own, and for the bootloader the higher of its own and Secure's.
+fn read_level(state: State, caller: u32, row: u32) -> u32
+    ensures { λ r. ⌜ r ≡ spec.readLevel state caller row ⌝ }
+{
+    let own = caller_level(state, caller, row);
+    if caller == BOOTLOADER {
+        let secure = caller_level(state, SECURE, row);
+        if own < secure {
+            return secure;
+        }
+    }
+    own
+}
+
 // Whether a caller may read a row.
 pub fn may_read(state: State, caller: u32, row: u32) -> bool
     ensures { λ r. ⌜ r ≡ spec.mayRead state caller row ⌝ }
@@ -28,13 +43,13 @@ pub fn may_read(state: State, caller: u32, row: u32) -> bool
     if Page::FIRST_LOCK_ROW <= row {
         return true;
     }
-    if 1 < caller_level(state, caller, row) {
+    if 1 < read_level(state, caller, row) {
         return false;
     }
     row_key_level(state, row) <= 1
 }
 
-// Whether a row may be written by Secure, or by Secure for Non-secure.
+// Whether a row may be written by Secure, or by Secure for another caller.
 pub fn may_write(state: State, caller: u32, row: u32) -> bool
     ensures { λ r. ⌜ r ≡ spec.mayWrite state caller row ⌝ }
 {

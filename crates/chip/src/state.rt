@@ -27,6 +27,7 @@ pub struct Key {
 pub struct State {
     pub secure: Levels,
     pub nonsecure: Levels,
+    pub bootloader: Levels,
     pub writekey: Indexes,
     pub readkey: Indexes,
     pub nokey: Flags,
@@ -47,6 +48,7 @@ impl State {
         State {
             secure: [0; 64],
             nonsecure: [0; 64],
+            bootloader: [0; 64],
             writekey: [0; 64],
             readkey: [0; 64],
             nokey: [false; 64],

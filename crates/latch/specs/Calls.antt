@@ -1,4 +1,5 @@
--- The calls on the state alone: advance a lock, show a lock, enter a key (document 01). Each has its number, first test first, and what it does.
+-- The calls on the state alone: advance a lock, show a lock, enter a key (document 01; request 2026-05). Each has its number, first
+-- test first, and what it does.
 use Prim.Native.Nat.{ℕ, _+_, _*_}
 use mathlib.Core.Bool.{not, _&&_}
 use mathlib.Core.List.{List, [], _∷_}
@@ -14,17 +15,19 @@ use Rattle.chip.specs.States.{withSecure, withNonsecure, withEntered, outcome}
 use Rattle.chip.specs.declared.state.State.{State}
 use Rattle.chip.specs.declared.state.Outcome.{Outcome}
 
--- advance a lock: Secure may advance both domains, Non-secure only its own
+-- advance a lock: nobody may advance the bootloader's domain, and the bootloader none; Secure may advance both others, Non-secure only its own
 abbrev pub advanceNumber : ℕ → ℕ → ℕ → ℕ → ℕ
 advanceNumber caller domain page level =
     firstOf
     (4 when noCaller caller ∷ 4 when noDomain domain ∷ 4 when ltb 63 page ∷ 4 when ltb 2 level
-    ∷ 7 when (eqb caller 1 && eqb domain 0) ∷ [])
+    ∷ 7 when eqb domain 2 ∷ 7 when eqb caller 2 ∷ 7 when (eqb caller 1 && eqb domain 0) ∷ [])
 
--- the state with a page's level in a domain set
+-- the state with a page's soft lock in a domain set; the bootloader has none
 abbrev pub withLevel : State → ℕ → ℕ → ℕ → State
 withLevel state domain page level =
-    if eqb domain 0 then withSecure state (set (state .secure) page level) else withNonsecure state (set (state .nonsecure) page level)
+    if eqb domain 0 then withSecure state (set (state .secure) page level)
+    else if eqb domain 1 then withNonsecure state (set (state .nonsecure) page level)
+    else state
 
 -- the higher of the present and the asked level is left; an equal or lower one changes nothing
 abbrev pub advanced : State → ℕ → ℕ → ℕ → State
@@ -35,7 +38,7 @@ unfoldable pub advance : State → ℕ → ℕ → ℕ → ℕ → Outcome
 advance state caller domain page level =
     outcome (advanceNumber caller domain page level) state (record { answer = done; state = advanced state domain page level })
 
--- show a lock: both callers may show any level
+-- show a lock: every caller may show any level
 abbrev pub showNumber : ℕ → ℕ → ℕ → ℕ
 showNumber caller domain page = firstOf (4 when noCaller caller ∷ 4 when noDomain domain ∷ 4 when ltb 63 page ∷ [])
 
@@ -44,7 +47,7 @@ showLock state caller domain page = answered (showNumber caller domain page) (to
 
 -- enter a key: only Secure does, and a key has 16 bytes
 abbrev pub enterNumber : ℕ → List ℕ → ℕ
-enterNumber caller key = firstOf (4 when noCaller caller ∷ 4 when not (eqb (length key) 16) ∷ 7 when eqb caller 1 ∷ [])
+enterNumber caller key = firstOf (4 when noCaller caller ∷ 4 when not (eqb (length key) 16) ∷ 7 when not (eqb caller 0) ∷ [])
 
 -- bytes 0 and 1 stand against the first key row, low byte first, and so on
 abbrev pub keyWords : List ℕ → List ℕ

@@ -1,4 +1,4 @@
--- Lock rows: three copies, their fields, and levels (document 01, "Locks").
+-- Lock rows: three copies, their fields, and levels (document 01, "Locks"; request 2026-05).
 use Prim.Native.Nat.{ℕ, _/_, _%_, min}
 use mathlib.Core.Bool.{Bool}
 use mathlib.Core.List.{List, [], _∷_}
@@ -23,12 +23,15 @@ readKeyField row = votedByte row / 8 % 8
 abbrev pub noKeyField : ℕ → Bool
 noKeyField row = eqb (votedByte row / 64 % 2) 1
 
--- high row: bits 1:0 Secure, 3:2 Non-secure
+-- high row: bits 1:0 Secure, 3:2 Non-secure, 5:4 bootloader
 abbrev pub secureField : ℕ → ℕ
 secureField row = votedByte row % 4
 
 abbrev pub nonsecureField : ℕ → ℕ
 nonsecureField row = votedByte row / 4 % 4
+
+abbrev pub bootloaderField : ℕ → ℕ
+bootloaderField row = votedByte row / 16 % 4
 
 -- field 0 is level 0 (read and write), 1 is level 1 (read only), 2 and 3 are level 2 (no access)
 abbrev pub levelOf : ℕ → ℕ

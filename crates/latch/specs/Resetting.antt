@@ -14,7 +14,7 @@ use Rattle.chip.specs.States.{outcome}
 use Rattle.chip.specs.declared.state.Key.{Key}
 use Rattle.chip.specs.declared.state.State.{State}
 use Rattle.chip.specs.declared.state.Outcome.{Outcome}
-use Rattle.latch.specs.Locks.{votedByte, writeKeyField, readKeyField, noKeyField, secureField, nonsecureField, levelOf}
+use Rattle.latch.specs.Locks.{votedByte, writeKeyField, readKeyField, noKeyField, secureField, nonsecureField, bootloaderField, levelOf}
 
 -- no entry is above 16,777,215
 unfoldable pub allInRange : List ℕ → Bool
@@ -43,6 +43,7 @@ unfoldable pub latched : List ℕ → State
 latched rows = record {
   secure = listed 64 (λ page. levelOf (secureField (rowAt rows (highLockRow page))));
   nonsecure = listed 64 (λ page. levelOf (nonsecureField (rowAt rows (highLockRow page))));
+  bootloader = listed 64 (λ page. levelOf (bootloaderField (rowAt rows (highLockRow page))));
   writekey = listed 64 (λ page. writeKeyField (rowAt rows (lowLockRow page)));
   readkey = listed 64 (λ page. readKeyField (rowAt rows (lowLockRow page)));
   nokey = listed 64 (λ page. noKeyField (rowAt rows (lowLockRow page)));

@@ -1,10 +1,13 @@
-// The calls on the state alone: advance a lock, show a lock, enter a key (document 01, "Locks" and "Keys").
+// The calls on the state alone: advance a lock, show a lock, enter a key (document 01, "Locks" and "Keys"; request 2026-05).
 ghost use mathlib.Core.Path.{_≡_};
 ghost use Prim.Native.Nat.{_≤_};
 ghost use lib.ListN.{length};
 ghost use Rattle.latch.specs.Calls as spec;
+use chip::callers::BOOTLOADER;
 use chip::callers::LAST_CALLER;
 use chip::callers::LAST_DOMAIN;
+use chip::callers::NONSECURE;
+use chip::callers::SECURE;
 use chip::callers::shown_level;
 use chip::pages::Page;
 use chip::state::Outcome;
@@ -31,8 +34,14 @@ fn advance_number(caller: u32, domain: u32, page: u32, level: u32) -> u32
     if 2 < level {
         return 4;
     }
-    if caller == 1 {
-        if domain == 0 {
+    if domain == BOOTLOADER {
+        return 7;
+    }
+    if caller == BOOTLOADER {
+        return 7;
+    }
+    if caller == NONSECURE {
+        if domain == SECURE {
             return 7;
         }
     }
@@ -55,7 +64,7 @@ pub fn advance(state: State, caller: u32, domain: u32, page: u32, level: u32) ->
     }
 }
 
-// The state with a page's level advanced. An equal or lower level changes nothing.
+// The state with a page's soft lock advanced. An equal or lower level changes nothing.
 fn advanced(state: State, domain: u32, page: u32, level: u32) -> State
     requires { ⌜ (page ≤ 63) × (level ≤ 2) ⌝ }
     ensures { λ r. ⌜ r ≡ spec.advanced state domain page level ⌝ }
@@ -64,9 +73,9 @@ fn advanced(state: State, domain: u32, page: u32, level: u32) -> State
     let mut next = state;
     let at = page as usize;
     if shown < level {
-        if domain == 0 {
+        if domain == SECURE {
             next.secure[at] = level as u8;
-        } else {
+        } else if domain == NONSECURE {
             next.nonsecure[at] = level as u8;
         }
     }
@@ -89,7 +98,7 @@ fn show_number(caller: u32, domain: u32, page: u32) -> u32
     0
 }
 
-// The level of a page in a lock domain, to either caller.
+// The level of a page in a lock domain, to any caller.
 pub fn show(state: State, caller: u32, domain: u32, page: u32) -> Answer
     ensures { λ r. ⌜ r ≡ spec.showLock state caller domain page ⌝ }
 {
@@ -110,7 +119,7 @@ fn enter_number(caller: u32, key: &[u8]) -> u32
     if key.len() != 16 {
         return 4;
     }
-    if caller == 1 {
+    if caller != SECURE {
         return 7;
     }
     0

@@ -5,7 +5,7 @@ ghost use lib.ListN.{length};
 ghost use Rattle.chip.specs.Lists.{listed};
 ghost use Rattle.chip.specs.Pages.{lowLockRow, highLockRow};
 ghost use Rattle.chip.specs.Slices.{rowAt};
-ghost use Rattle.latch.specs.Locks.{levelOf, secureField, nonsecureField, writeKeyField, readKeyField, noKeyField};
+ghost use Rattle.latch.specs.Locks.{levelOf, secureField, nonsecureField, bootloaderField, writeKeyField, readKeyField, noKeyField};
 ghost use Rattle.latch.specs.Resetting as spec;
 use crate::locks::level_of;
 use crate::locks::voted_byte;
@@ -38,6 +38,7 @@ pub fn all_in_range(rows: &[u32]) -> bool
 struct LockWord {
     secure: u8,
     nonsecure: u8,
+    bootloader: u8,
     writekey: u8,
     readkey: u8,
     nokey: bool,
@@ -48,6 +49,7 @@ fn lock_word(low_row: u32, high_row: u32) -> LockWord
     ensures { λ r. ⌜
         (r .secure ≡ levelOf (secureField «high_row»))
         × (r .nonsecure ≡ levelOf (nonsecureField «high_row»))
+        × (r .bootloader ≡ levelOf (bootloaderField «high_row»))
         × (r .writekey ≡ writeKeyField «low_row»)
         × (r .readkey ≡ readKeyField «low_row»)
         × (r .nokey ≡ noKeyField «low_row»)
@@ -58,6 +60,7 @@ fn lock_word(low_row: u32, high_row: u32) -> LockWord
     LockWord {
         secure: level_of(high % 4),
         nonsecure: level_of(high / 4 % 4),
+        bootloader: level_of(high / 16 % 4),
         writekey: (low % 8) as u8,
         readkey: (low / 8 % 8) as u8,
         nokey: low / 64 % 2 == 1,
@@ -68,6 +71,7 @@ fn lock_word(low_row: u32, high_row: u32) -> LockWord
 struct Locks {
     secure: Levels,
     nonsecure: Levels,
+    bootloader: Levels,
     writekey: Indexes,
     readkey: Indexes,
     nokey: Flags,
@@ -79,6 +83,7 @@ fn locks_of(rows: &[u32]) -> Locks
     ensures { λ r. ⌜
         (r .secure ≡ listed 64 (λ page. levelOf (secureField (rowAt (now (rows .entry)) (highLockRow page)))))
         × (r .nonsecure ≡ listed 64 (λ page. levelOf (nonsecureField (rowAt (now (rows .entry)) (highLockRow page)))))
+        × (r .bootloader ≡ listed 64 (λ page. levelOf (bootloaderField (rowAt (now (rows .entry)) (highLockRow page)))))
         × (r .writekey ≡ listed 64 (λ page. writeKeyField (rowAt (now (rows .entry)) (lowLockRow page))))
         × (r .readkey ≡ listed 64 (λ page. readKeyField (rowAt (now (rows .entry)) (lowLockRow page))))
         × (r .nokey ≡ listed 64 (λ page. noKeyField (rowAt (now (rows .entry)) (lowLockRow page))))
@@ -86,6 +91,7 @@ fn locks_of(rows: &[u32]) -> Locks
 {
     let mut secure = [0u8; 64];
     let mut nonsecure = [0u8; 64];
+    let mut bootloader = [0u8; 64];
     let mut writekey = [0u8; 64];
     let mut readkey = [0u8; 64];
     let mut nokey = [false; 64];
@@ -97,6 +103,7 @@ fn locks_of(rows: &[u32]) -> Locks
         let word = lock_word(rows[low], rows[high]);
         secure[at] = word.secure;
         nonsecure[at] = word.nonsecure;
+        bootloader[at] = word.bootloader;
         writekey[at] = word.writekey;
         readkey[at] = word.readkey;
         nokey[at] = word.nokey;
@@ -105,6 +112,7 @@ fn locks_of(rows: &[u32]) -> Locks
     Locks {
         secure,
         nonsecure,
+        bootloader,
         writekey,
         readkey,
         nokey,
@@ -163,6 +171,7 @@ fn latched(rows: &[u32]) -> State
     let locks = locks_of(rows);
     let secure = locks.secure;
     let nonsecure = locks.nonsecure;
+    let bootloader = locks.bootloader;
     let writekey = locks.writekey;
     let readkey = locks.readkey;
     let nokey = locks.nokey;
@@ -170,6 +179,7 @@ fn latched(rows: &[u32]) -> State
     State {
         secure,
         nonsecure,
+        bootloader,
         writekey,
         readkey,
         nokey,

@@ -19,6 +19,7 @@ AgreeToWrite caller a b = (row : ℕ) → mayWrite a caller row ≡ mayWrite b c
 pub record SameLocks (a b : State) : Type 0 where
   pub secure : a .secure ≡ b .secure
   pub nonsecure : a .nonsecure ≡ b .nonsecure
+  pub bootloader : a .bootloader ≡ b .bootloader
   pub writekey : a .writekey ≡ b .writekey
   pub readkey : a .readkey ≡ b .readkey
   pub nokey : a .nokey ≡ b .nokey
@@ -31,7 +32,7 @@ same-level s page = rw (s .writekey, s .readkey, s .nokey, s .keys, s .entered)
 
 pub locks-agree : {a b : State} → SameLocks a b → (caller : ℕ) → AgreeToWrite caller a b
 unfolding mayWrite
-locks-agree s caller row = rw (same-level s (keyPage row), s .secure, s .nonsecure)
+locks-agree s caller row = rw (same-level s (keyPage row), s .secure, s .nonsecure, s .bootloader)
 
 module _ (rows : List ℕ) (a b : State) (agree : AgreeToWrite 0 a b) where
   same-rungs : (i : ℕ) (es : List Entry) → allRungs rows a i es ≡ allRungs rows b i es

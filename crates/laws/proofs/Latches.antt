@@ -48,6 +48,7 @@ module _ (rows left : List ℕ) (same : (k : ℕ) → 0xf40 ≤ k → rowAt left
       record {
         secure = simp high;
         nonsecure = simp high;
+        bootloader = simp high;
         writekey = simp low;
         readkey = simp low;
         nokey = simp low;
@@ -82,6 +83,7 @@ entered-same {a} {b} key s = go (eqb (enterNumber 0 key) 0) refl
         rw e record {
           secure = s .secure;
           nonsecure = s .nonsecure;
+          bootloader = s .bootloader;
           writekey = s .writekey;
           readkey = s .readkey;
           nokey = s .nokey;

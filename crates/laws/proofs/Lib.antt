@@ -10,6 +10,7 @@ pub mod LockRows
 pub mod Refusals
 pub mod Conditions
 pub mod Burning
+pub mod WithoutReset
 pub mod Locking
 pub mod CallWrites
 pub mod Between

@@ -3,10 +3,12 @@
 use mathlib.Core.Bool.{Bool, true, false, _&&_, _||_, and-eq-true-iff}
 use mathlib.Core.Path.{_≡_, refl}
 use borrow.Author.Tests.{eqb-true}
-use lib.Dec.{eqb}
+use Prim.Native.Nat.{ℕ, max}
+use lib.Dec.{eqb, leb}
 use Rattle.chip.specs.Pages.{isLockRow}
 use Rattle.chip.specs.Permission.{rowKeyLevel, callerLevel, mayRead, mayWrite}
 use Rattle.laws.specs.Promises.{MayWriteMayRead}
+use Rattle.row.proofs.Choices.{both-ways}
 
 or-true : (t : Bool) → (t || true) ≡ true
 or-true true = refl
@@ -19,6 +21,9 @@ mayWriteMayRead state caller row may =
     let secure : Bool = eqb (callerLevel state 0 row) 0 in
     let key : Bool = eqb (rowKeyLevel state row) 0 in
     let parts = and-eq-true-iff (own && secure) key .0 may in
-    let level : callerLevel state caller row ≡ 0 = eqb-true (callerLevel state caller row) 0 (and-eq-true-iff own secure .0 (parts .0) .0) in
+    let levels = and-eq-true-iff own secure .0 (parts .0) in
+    let level : callerLevel state caller row ≡ 0 = eqb-true (callerLevel state caller row) 0 (levels .0) in
+    let as-secure : callerLevel state 0 row ≡ 0 = eqb-true (callerLevel state 0 row) 0 (levels .1) in
     let key-level : rowKeyLevel state row ≡ 0 = eqb-true (rowKeyLevel state row) 0 (parts .1) in
-    rw (level, key-level) (or-true (isLockRow row))
+    rw (level, as-secure, key-level)
+    (both-ways (λ (l : ℕ). (isLockRow row || leb (max l 0) 1) ≡ true) (eqb caller 2) 0 0 (or-true (isLockRow row)) (or-true (isLockRow row)))

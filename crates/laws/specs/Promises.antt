@@ -18,7 +18,7 @@ use Rattle.chip.specs.Permission.{mayRead, mayWrite}
 use Rattle.chip.specs.Slices.{rowAt}
 use Rattle.chip.specs.declared.state.State.{State}
 use Rattle.latch.specs.Calls.{advance}
-use Rattle.latch.specs.Locks.{levelOf, secureField, nonsecureField}
+use Rattle.latch.specs.Locks.{levelOf, secureField, nonsecureField, bootloaderField}
 use Rattle.latch.specs.Resetting.{resetNumber, reset}
 use Rattle.access.specs.Reads.{readEccNumber, readEcc}
 use Rattle.access.specs.Judging.{ecc, callRungs}
@@ -53,7 +53,7 @@ pub data NoReset : List Call → Type 0 where
   none : NoReset []
   more : {call : Call} {others : List Call} → (call ≡ aReset → ⊥) → NoReset others → NoReset (call ∷ others)
 
--- until a reset no counted lock level falls, over any calls
+-- until a reset no counted lock level falls, of any domain, over any calls
 abbrev pub NoLockFalls : Type 0
 NoLockFalls =
     (chip : Chip) (calls : List Call) (domain page : ℕ) → NoReset calls
@@ -113,6 +113,7 @@ LevelsFallBack =
     (rows : List ℕ) (state : State) (page : ℕ) → resetNumber rows ≡ 0 → page < 64
     → (shownLevel (reset rows state .state) 0 page ≡ levelOf (secureField (rowAt rows (highLockRow page))))
     × (shownLevel (reset rows state .state) 1 page ≡ levelOf (nonsecureField (rowAt rows (highLockRow page))))
+    × (shownLevel (reset rows state .state) 2 page ≡ levelOf (bootloaderField (rowAt rows (highLockRow page))))
 
 -- advancing leaves the higher of the present and the asked level
 abbrev pub AdvanceLeavesHigher : Type 0
@@ -120,11 +121,11 @@ AdvanceLeavesHigher =
     (state : State) (caller domain page level : ℕ) → advance state caller domain page level .answer .number ≡ 0
     → shownLevel (advance state caller domain page level .state) domain page ≡ max (shownLevel state domain page) level
 
--- and every other level, of its domain and the other, as it was
+-- and every other level, of its domain and the others, as it was
 abbrev pub AdvanceLeavesOthers : Type 0
 AdvanceLeavesOthers =
     (state : State) (caller domain page level : ℕ) → advance state caller domain page level .answer .number ≡ 0
-    → (otherDomain otherPage : ℕ) → otherDomain ≤ 1 → (otherDomain ≡ domain → otherPage ≡ page → ⊥)
+    → (otherDomain otherPage : ℕ) → (otherDomain ≡ domain → otherPage ≡ page → ⊥)
     → shownLevel (advance state caller domain page level .state) otherDomain otherPage ≡ shownLevel state otherDomain otherPage
 
 -- writes, jobs and rehearsals

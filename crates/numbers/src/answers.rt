@@ -2,16 +2,10 @@
 use crate::print;
 use crate::said::NONE;
 use crate::said::Said;
+use crate::said::or_zero;
 use row::answer::Answer;
 use row::answer::Condition;
 use row::answer::Polarity;
-
-fn or_zero(number: u32) -> u32 {
-    if number == NONE {
-        return 0;
-    }
-    number
-}
 
 fn agreeing(place: u32) -> Condition {
     if place == NONE {

@@ -1,8 +1,10 @@
-// Drives each of the nine calls through every number that it can give, against document 01.
+// Drives each of the nine calls through every number that it can give, against document 01, and by each caller, domain and level.
 // The cases, each with what must be, are the program's input: the file stdin beside src. After a
 // write all rows and the whole state are compared, and after a call on the state all of it.
 mod answers;
 mod board;
+mod every_level;
+mod every_lock;
 mod names;
 mod outcomes;
 mod preparing;
@@ -24,7 +26,8 @@ fn legend() {
 
 An answer is its number, its value, its condition and its pulses. The condition is clean, or the
 repaired bit, or worn where bits 23 and 22 disagree, with the repaired bit; ~ marks an inverted row.
-S is the caller Secure (0), N is Non-secure (1). What must be left of rows and state:
+S is the caller Secure (0), N is Non-secure (1), B is the bootloader (2). What must be left of rows
+and state:
   kept     every row and the whole state as they were
   burnt    the row as the write must leave it, every other row and the whole state as they were
   latched  the state that reset must make of the rows
@@ -39,9 +42,10 @@ fn main() {
     legend();
     let mut input = [0u8; 131072];
     let count = io::read_full(STDIN_FILENO, &mut input);
-    let all = scene::play(&input[..count]);
+    let played = scene::play(&input[..count]);
     if count == input.len() {
         print::text(b"the input may be longer than what was read\n");
     }
+    let all = every_level::all(every_lock::all(played));
     tally::last_line(all);
 }

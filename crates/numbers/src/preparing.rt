@@ -4,6 +4,7 @@ use crate::board::Board;
 use crate::board::ROWS;
 use crate::names;
 use crate::print;
+use crate::said;
 use crate::said::Said;
 use crate::states;
 
@@ -58,10 +59,14 @@ fn with_bytes(board: Board, said: Said) -> Board {
     next
 }
 
-fn with_levels(board: Board, page: u32, secure: u32, nonsecure: u32) -> Board {
+// Where no line says the bootloader's level, it is 0.
+fn with_levels(board: Board, said: Said) -> Board {
     let hand = board.hand;
-    let advanced = states::with_secure(hand, page, secure);
-    board::with_hand(board, states::with_nonsecure(advanced, page, nonsecure))
+    let page = said.first;
+    let secure = states::with_secure(hand, page, said.second);
+    let nonsecure = states::with_nonsecure(secure, page, said.third);
+    let level = said::or_zero(said.fourth);
+    board::with_hand(board, states::with_bootloader(nonsecure, page, level))
 }
 
 fn with_indexes(board: Board, said: Said) -> Board {
@@ -89,7 +94,7 @@ fn with_state(board: Board, name: usize, said: Said) -> Board {
         return board::with_hand(board, states::open());
     }
     if name == names::LEVELS {
-        return with_levels(board, said.first, said.second, said.third);
+        return with_levels(board, said);
     }
     if name == names::INDEXES {
         return with_indexes(board, said);

@@ -20,6 +20,13 @@ pub struct Said {
 // What a number that is left out, or written as a dash, stands as.
 pub const NONE: u32 = 4294967295;
 
+pub fn or_zero(number: u32) -> u32 {
+    if number == NONE {
+        return 0;
+    }
+    number
+}
+
 // The numbers as far as they are read, in the order above.
 struct Scan {
     numbers: [u32; 11],

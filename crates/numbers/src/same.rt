@@ -57,7 +57,11 @@ fn same_levels(a: State, b: State) -> bool {
     let b_secure = b.secure;
     let a_nonsecure = a.nonsecure;
     let b_nonsecure = b.nonsecure;
-    same_pages(a_secure, b_secure) && same_pages(a_nonsecure, b_nonsecure)
+    let a_bootloader = a.bootloader;
+    let b_bootloader = b.bootloader;
+    same_pages(a_secure, b_secure)
+        && same_pages(a_nonsecure, b_nonsecure)
+        && same_pages(a_bootloader, b_bootloader)
 }
 
 fn same_indexes(a: State, b: State) -> bool {

@@ -28,6 +28,13 @@ pub fn with_nonsecure(state: State, page: u32, level: u32) -> State {
     next
 }
 
+pub fn with_bootloader(state: State, page: u32, level: u32) -> State {
+    let mut next = state;
+    let at = (page % 64) as usize;
+    next.bootloader[at] = (level % 256) as u8;
+    next
+}
+
 pub fn with_indexes(state: State, page: u32, write: u32, read: u32, nokey: u32) -> State {
     let mut next = state;
     let at = (page % 64) as usize;

@@ -12,14 +12,14 @@ returns : tie.Need-returns
 unfolding mayRead
 returns c = simp (le-leb _ _ (c .if1 .taken))
 
-caller-level-requires : tie.Need-caller-level-requires
-caller-level-requires c κs = search needs
+read-level-requires : tie.Need-read-level-requires
+read-level-requires c κs = search needs
 
 returns-2 : tie.Need-returns-2
 unfolding mayRead
 returns-2 c =
-    rw (← c .before .caller-level .ensures, lt-leb _ _ (c .before .before .if1 .left))
-    (sym (max-high (c .before .caller-level .result) _ 1 (c .if2 .taken)))
+    rw (← c .before .read-level .ensures, lt-leb _ _ (c .before .before .if1 .left))
+    (sym (max-high (c .before .read-level .result) _ 1 (c .if2 .taken)))
 
 row-key-level-requires : tie.Need-row-key-level-requires
 row-key-level-requires c κs = search needs
@@ -27,9 +27,9 @@ row-key-level-requires c κs = search needs
 returns-3 : tie.Need-returns-3
 unfolding mayRead
 returns-3 c =
-    rw (← c .before .before .caller-level .ensures, ← c .row-key-level .ensures, lt-leb _ _ (c .before .before .before .if1 .left))
-    (sym (max-low (c .before .before .caller-level .result) (c .row-key-level .result) 1 (c .before .if2 .left)))
+    rw (← c .before .before .read-level .ensures, ← c .row-key-level .ensures, lt-leb _ _ (c .before .before .before .if1 .left))
+    (sym (max-low (c .before .before .read-level .result) (c .row-key-level .result) 1 (c .before .if2 .left)))
 
 pub may-read-spec : {M : Type 1} → statement M
 may-read-spec =
-    tie.close (tie.spec returns caller-level-requires returns-2 row-key-level-requires returns-3)
+    tie.close (tie.spec returns read-level-requires returns-2 row-key-level-requires returns-3)

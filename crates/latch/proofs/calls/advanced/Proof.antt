@@ -4,10 +4,17 @@ use borrow.Author.Needs.{needs}
 use borrow.Author.Tests.{le-leb, lt-leb, eq-eqb, ne-eqb}
 use mathlib.Core.Path.{_≡_, sym, ap, _∙_}
 use mathlib.Core.Bool.{false}
+use Prim.Native.Nat.{ℕ, _<_}
 use lib.Dec.{leb}
 use Rattle.chip.specs.Callers.{shownLevel}
+use Rattle.chip.specs.declared.state.State.{State}
 use Rattle.latch.proofs.calls.advanced.Statement.{statement}
 use Rattle.latch.proofs.calls.advanced.Tie as tie
+
+-- the asked level is above the one that is shown
+above : (state : State) (domain page level shown : ℕ) → shown ≡ shownLevel state domain page → shown < level
+    → leb level (shownLevel state domain page) ≡ false
+above state domain page level shown as-shown higher = ap (leb level) (sym as-shown) ∙ lt-leb level shown higher
 
 cast-t8 : tie.Need-cast-t8
 cast-t8 c = search needs
@@ -24,9 +31,7 @@ element-write-next c = search needs
 returns : tie.Need-returns
 returns c =
     let a = c .before .before .before .args in
-    let above : leb (a .level) (shownLevel (a .state) (a .domain) (a .page)) ≡ false =
-    ap (leb (a .level)) (sym (c .before .before .shown-level .ensures)) ∙ lt-leb _ _ (c .before .if1 .taken) in
-    rw (above, eq-eqb _ _ (c .if2 .taken))
+    rw (above (a .state) (a .domain) (a .page) (a .level) _ (c .before .before .shown-level .ensures) (c .before .if1 .taken), eq-eqb _ _ (c .if2 .taken))
 
 cast-next-2 : tie.Need-cast-next-2
 cast-next-2 c = search needs
@@ -36,13 +41,16 @@ element-write-next-2 c = search needs
 
 returns-2 : tie.Need-returns-2
 returns-2 c =
-    let a = c .before .before .before .args in
-    let above : leb (a .level) (shownLevel (a .state) (a .domain) (a .page)) ≡ false =
-    ap (leb (a .level)) (sym (c .before .before .shown-level .ensures)) ∙ lt-leb _ _ (c .before .if1 .taken) in
-    rw (above, ne-eqb _ _ (c .if2 .left))
+    let a = c .before .before .before .before .args in
+    rw (above (a .state) (a .domain) (a .page) (a .level) _ (c .before .before .before .shown-level .ensures) (c .before .before .if1 .taken), ne-eqb _ _ (c .before .if2 .left), eq-eqb _ _ (c .if3 .taken))
 
 returns-3 : tie.Need-returns-3
-returns-3 c = simp (← c .before .shown-level .ensures, le-leb _ _ (c .if1 .left))
+returns-3 c =
+    let a = c .before .before .before .before .args in
+    rw (above (a .state) (a .domain) (a .page) (a .level) _ (c .before .before .before .shown-level .ensures) (c .before .before .if1 .taken), ne-eqb _ _ (c .before .if2 .left), ne-eqb _ _ (c .if3 .left))
+
+returns-4 : tie.Need-returns-4
+returns-4 c = simp (← c .before .shown-level .ensures, le-leb _ _ (c .if1 .left))
 
 pub advanced-spec : {M : Type 1} → statement M
 advanced-spec =
@@ -56,4 +64,5 @@ advanced-spec =
     element-write-next-2
     returns
     returns-2
-    returns-3)
+    returns-3
+    returns-4)

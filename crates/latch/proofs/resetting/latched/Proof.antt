@@ -14,8 +14,8 @@ six-keys-requires c κs = search needs
 returns : tie.Need-returns
 unfolding latched
 returns c =
-    let locks = c .before .before .before .before .before .before .locks-of .ensures in
-    simp (locks .0, locks .1, locks .2, locks .3, locks .4, c .six-keys .ensures)
+    let locks = c .before .before .before .before .before .before .before .locks-of .ensures in
+    simp (locks .0, locks .1, locks .2, locks .3, locks .4, locks .5, c .six-keys .ensures)
 
 pub latched-spec : {M : Type 1} → statement M
 latched-spec = tie.close (tie.spec locks-of-requires six-keys-requires returns)

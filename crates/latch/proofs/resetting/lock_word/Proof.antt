@@ -16,14 +16,17 @@ level-of-requires c κs = search needs
 level-of-requires-2 : tie.Need-level-of-requires-2
 level-of-requires-2 c κs = search needs
 
-cast-t11 : tie.Need-cast-t11
-cast-t11 c = search needs
+level-of-requires-3 : tie.Need-level-of-requires-3
+level-of-requires-3 c κs = search needs
 
 cast-t14 : tie.Need-cast-t14
 cast-t14 c = search needs
 
+cast-t17 : tie.Need-cast-t17
+cast-t17 c = search needs
+
 returns : tie.Need-returns
-returns c = (search needs, search needs, search needs, search needs, rw (← c .before .before .before .voted-byte .ensures))
+returns c = (search needs, search needs, search needs, search needs, search needs, rw (← c .before .before .before .before .voted-byte .ensures))
 
 pub lock-word-spec : {M : Type 1} → statement M
 lock-word-spec =
@@ -33,6 +36,7 @@ lock-word-spec =
     voted-byte-requires-2
     level-of-requires
     level-of-requires-2
-    cast-t11
+    level-of-requires-3
     cast-t14
+    cast-t17
     returns)

@@ -1,4 +1,4 @@
--- `latch::resetting::locks_of` meets its contract. The invariant: the pages so far are filled by the five rules.
+-- `latch::resetting::locks_of` meets its contract. The invariant: the pages so far are filled by the six rules.
 -- Assumes nothing.
 use borrow.Author.Needs.{needs}
 use denote.Ref.{now}
@@ -11,7 +11,7 @@ use Rattle.chip.specs.Lists.{listed}
 use Rattle.chip.specs.Pages.{lowLockRow, highLockRow}
 use Rattle.chip.specs.Slices.{rowAt}
 use Rattle.chip.proofs.Lists.{Filled, filled-more, filled-all}
-use Rattle.latch.specs.Locks.{levelOf, secureField, nonsecureField, writeKeyField, readKeyField, noKeyField}
+use Rattle.latch.specs.Locks.{levelOf, secureField, nonsecureField, bootloaderField, writeKeyField, readKeyField, noKeyField}
 use Rattle.latch.proofs.resetting.locks_of.Statement.{statement}
 use Rattle.latch.proofs.resetting.locks_of.Tie as tie
 
@@ -21,6 +21,9 @@ module _ (rows : List ℕ) where
 
   abbrev nonsecure-rule : ℕ → ℕ
   nonsecure-rule page = levelOf (nonsecureField (rowAt rows (highLockRow page)))
+
+  abbrev bootloader-rule : ℕ → ℕ
+  bootloader-rule page = levelOf (bootloaderField (rowAt rows (highLockRow page)))
 
   abbrev writekey-rule : ℕ → ℕ
   writekey-rule page = writeKeyField (rowAt rows (lowLockRow page))
@@ -32,23 +35,24 @@ module _ (rows : List ℕ) where
   nokey-rule page = noKeyField (rowAt rows (lowLockRow page))
 
 abbrev Inv-loop : tie.InvT-loop
-Inv-loop rows secure₀ nonsecure₀ writekey₀ readkey₀ nokey₀ at₀ secure nonsecure writekey readkey nokey at =
+Inv-loop rows secure₀ nonsecure₀ bootloader₀ writekey₀ readkey₀ nokey₀ at₀ secure nonsecure bootloader writekey readkey nokey at =
     (at ≤ 64)
     × Filled 64 (secure-rule rows) at secure
     × Filled 64 (nonsecure-rule rows) at nonsecure
+    × Filled 64 (bootloader-rule rows) at bootloader
     × Filled 64 (writekey-rule rows) at writekey
     × Filled 64 (readkey-rule rows) at readkey
     × Filled 64 (nokey-rule rows) at nokey
 
 abbrev μ-loop : tie.MeasureT-loop
-μ-loop rows secure₀ nonsecure₀ writekey₀ readkey₀ nokey₀ at₀ secure nonsecure writekey readkey nokey at = 64 - at
+μ-loop rows secure₀ nonsecure₀ bootloader₀ writekey₀ readkey₀ nokey₀ at₀ secure nonsecure bootloader writekey readkey nokey at = 64 - at
 
 loop-holds : tie.Need-loop-holds Inv-loop μ-loop
 unfolding listed
-loop-holds c = (search needs, (search needs, refl), (search needs, refl), (search needs, refl), (search needs, refl), (search needs, refl))
+loop-holds c = (search needs, (search needs, refl), (search needs, refl), (search needs, refl), (search needs, refl), (search needs, refl), (search needs, refl))
 
-cast-t13 : tie.Need-cast-t13 Inv-loop μ-loop
-cast-t13 c = omega arith
+cast-t14 : tie.Need-cast-t14 Inv-loop μ-loop
+cast-t14 c = omega arith
 
 low-lock-row-requires : tie.Need-low-lock-row-requires Inv-loop μ-loop
 low-lock-row-requires c κs = search needs
@@ -83,6 +87,9 @@ array-write-secure c = omega arith
 array-write-nonsecure : tie.Need-array-write-nonsecure Inv-loop μ-loop
 array-write-nonsecure c = omega arith
 
+array-write-bootloader : tie.Need-array-write-bootloader Inv-loop μ-loop
+array-write-bootloader c = omega arith
+
 array-write-writekey : tie.Need-array-write-writekey Inv-loop μ-loop
 array-write-writekey c = omega arith
 
@@ -108,9 +115,10 @@ loop-again c =
       omega arith,
       filled-more 64 (secure-rule rows) (l .secure) (l .at) _ (omega arith) (word .0 ∙ ap (λ (row : ℕ). levelOf (secureField row)) high) (l .inv .1),
       filled-more 64 (nonsecure-rule rows) (l .nonsecure) (l .at) _ (omega arith) (word .1 ∙ ap (λ (row : ℕ). levelOf (nonsecureField row)) high) (l .inv .2),
-      filled-more 64 (writekey-rule rows) (l .writekey) (l .at) _ (omega arith) (word .2 ∙ ap (λ (row : ℕ). writeKeyField row) low) (l .inv .3),
-      filled-more 64 (readkey-rule rows) (l .readkey) (l .at) _ (omega arith) (word .3 ∙ ap (λ (row : ℕ). readKeyField row) low) (l .inv .4),
-      filled-more 64 (nokey-rule rows) (l .nokey) (l .at) _ (omega arith) (word .4 ∙ ap (λ (row : ℕ). noKeyField row) low) (l .inv .5),
+      filled-more 64 (bootloader-rule rows) (l .bootloader) (l .at) _ (omega arith) (word .2 ∙ ap (λ (row : ℕ). levelOf (bootloaderField row)) high) (l .inv .3),
+      filled-more 64 (writekey-rule rows) (l .writekey) (l .at) _ (omega arith) (word .3 ∙ ap (λ (row : ℕ). writeKeyField row) low) (l .inv .4),
+      filled-more 64 (readkey-rule rows) (l .readkey) (l .at) _ (omega arith) (word .4 ∙ ap (λ (row : ℕ). readKeyField row) low) (l .inv .5),
+      filled-more 64 (nokey-rule rows) (l .nokey) (l .at) _ (omega arith) (word .5 ∙ ap (λ (row : ℕ). noKeyField row) low) (l .inv .6),
     )
 
 returns : tie.Need-returns Inv-loop μ-loop
@@ -120,9 +128,10 @@ returns c =
     let all : l .at ≡ 64 = omega arith in (
       filled-all 64 (secure-rule rows) (l .secure) (l .at) all (l .inv .1),
       filled-all 64 (nonsecure-rule rows) (l .nonsecure) (l .at) all (l .inv .2),
-      filled-all 64 (writekey-rule rows) (l .writekey) (l .at) all (l .inv .3),
-      filled-all 64 (readkey-rule rows) (l .readkey) (l .at) all (l .inv .4),
-      filled-all 64 (nokey-rule rows) (l .nokey) (l .at) all (l .inv .5),
+      filled-all 64 (bootloader-rule rows) (l .bootloader) (l .at) all (l .inv .3),
+      filled-all 64 (writekey-rule rows) (l .writekey) (l .at) all (l .inv .4),
+      filled-all 64 (readkey-rule rows) (l .readkey) (l .at) all (l .inv .5),
+      filled-all 64 (nokey-rule rows) (l .nokey) (l .at) all (l .inv .6),
     )
 
 pub locks-of-spec : {M : Type 1} → statement M
@@ -132,7 +141,7 @@ locks-of-spec =
     Inv-loop
     μ-loop
     loop-holds
-    cast-t13
+    cast-t14
     low-lock-row-requires
     cast-low
     high-lock-row-requires
@@ -144,6 +153,7 @@ locks-of-spec =
     lock-word-requires
     array-write-secure
     array-write-nonsecure
+    array-write-bootloader
     array-write-writekey
     array-write-readkey
     array-write-nokey

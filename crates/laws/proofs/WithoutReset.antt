@@ -1,0 +1,47 @@
+-- Calls with no reset among them: what relates the states before and after, if advancing a lock and entering a key keep it.
+-- Assumes nothing.
+use mathlib.Core.List.{List, [], _∷_}
+use mathlib.Core.Path.{_≡_, refl}
+use Prim.Native.Nat.{ℕ}
+use lib.Dec.{eqb}
+use Rattle.chip.specs.States.{withEntered}
+use Rattle.chip.specs.declared.state.State.{State}
+use Rattle.chip.specs.declared.state.Outcome.{Outcome}
+use Rattle.latch.specs.Calls.{advanceNumber, advanced, advance, enterNumber, enterKey}
+use Rattle.laws.specs.Calls.{Chip, Call, aReset, aRawRead, anEccRead, aVote, aRawWrite, anEccWrite, anAdvance, aShow, aKey, aJob, aRehearsal, perform, performAll}
+use Rattle.laws.specs.Promises.{NoReset, Burns}
+use Rattle.laws.proofs.Burning.{burningLatchesNothing}
+use Rattle.row.proofs.Choices.{both-ways}
+
+module _ (Kept : State → State → Type 0) (itself : (state : State) → Kept state state)
+    (through : (a b c : State) → Kept a b → Kept b c → Kept a c)
+    (by-advance : (state : State) (domain page level : ℕ) → Kept state (advanced state domain page level))
+    (by-key : (state : State) (words : List ℕ) → Kept state (withEntered state words)) where
+  -- what burns changes nothing latched
+  by-burning : (chip : Chip) {call : Call} → Burns call → Kept (chip .state) (perform chip call .chip .state)
+  by-burning chip {call} burns = rw (burningLatchesNothing chip call burns) (itself (chip .state))
+
+  by-call : (chip : Chip) (call : Call) → (call ≡ aReset → ⊥) → Kept (chip .state) (perform chip call .chip .state)
+  unfolding perform advance enterKey
+  by-call chip aReset not-reset = absurd (not-reset refl)
+  by-call chip (aRawRead caller row) not-reset = itself (chip .state)
+  by-call chip (anEccRead caller row) not-reset = itself (chip .state)
+  by-call chip (aVote caller row count) not-reset = itself (chip .state)
+  by-call chip (aRawWrite caller row value) not-reset = by-burning chip Burns.rawWrite
+  by-call chip (anEccWrite caller row value) not-reset = by-burning chip Burns.eccWrite
+  by-call chip (anAdvance caller domain page level) not-reset =
+      both-ways (λ (o : Outcome). Kept (chip .state) (o .state)) (eqb (advanceNumber caller domain page level) 0) _ _
+      (by-advance (chip .state) domain page level) (itself (chip .state))
+  by-call chip (aShow caller domain page) not-reset = itself (chip .state)
+  by-call chip (aKey caller key) not-reset =
+      both-ways (λ (o : Outcome). Kept (chip .state) (o .state)) (eqb (enterNumber caller key) 0) _ _
+      (by-key (chip .state) _) (itself (chip .state))
+  by-call chip (aJob job) not-reset = by-burning chip Burns.job
+  by-call chip (aRehearsal job limit) not-reset = by-burning chip Burns.rehearsal
+
+  pub by-calls : (chip : Chip) (calls : List Call) → NoReset calls → Kept (chip .state) (performAll chip calls .state)
+  unfolding performAll
+  by-calls chip [] NoReset.none = itself (chip .state)
+  by-calls chip (call ∷ others) (NoReset.more not-reset rest) =
+      let next : Chip = perform chip call .chip in
+      through (chip .state) (next .state) (performAll next others .state) (by-call chip call not-reset) (by-calls next others rest)
