@@ -12,6 +12,7 @@ pub mod Conditions
 pub mod Burning
 pub mod WithoutReset
 pub mod Locking
+pub mod Callers
 pub mod CallWrites
 pub mod Between
 pub mod Entries

@@ -7,5 +7,6 @@ pub mod Numbers
 pub mod Promises
 pub mod Conditions
 pub mod LockRows
+pub mod Callers
 pub mod Cuts
 pub mod Jobs
