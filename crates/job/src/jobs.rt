@@ -11,7 +11,7 @@ use row::answer::refused_at;
 use row::answer::spent;
 
 // The longest job burns all 24 bits of each of its rows.
-const MOST_PULSES: u32 = 24 * MOST_ENTRIES;
+pub const MOST_PULSES: u32 = 24 * MOST_ENTRIES;
 
 // Judges a job, and burns it until the pulses of the limit are spent.
 pub fn rehearse(rows: &mut [u32], state: State, job: &[u8], limit: u32) -> Outcome
