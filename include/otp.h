@@ -23,7 +23,9 @@
  *           It locks no page and holds no key, so call nothing else before that reset is done. A call that can change the state
  *           gives it back: keep that one. A write, a job or a rehearsal gives it back as it came, since what is burnt has no effect
  *           before the next reset. Any contents are allowed, if each bool is 0 or 1.
- * caller    OTP_SECURE or OTP_NONSECURE.
+ * caller    OTP_SECURE, OTP_NONSECURE or OTP_BOOTLOADER. The library believes what it is told. The bootloader runs as Secure, so it may
+ *           never do what Secure may not: its read needs its own level, Secure's and that of the keys to be at most OTP_READ_ONLY, and
+ *           its write needs all three to be OTP_READ_WRITE.
  *
  * A number that is too large is refused, and so is a length that is wrong. What no call can see is left to the caller: a pointer is
  * never NULL, also where the length is 0, it points to as many elements as the length says, and the rows and the bytes of a job or a
@@ -66,8 +68,8 @@ enum {
     OTP_KEY_BYTES = 16  /* the bytes of a key */
 };
 
-/* Callers, and the domains of a lock. */
-enum { OTP_SECURE = 0, OTP_NONSECURE = 1 };
+/* Callers, and the domains of a lock: each caller has one. */
+enum { OTP_SECURE = 0, OTP_NONSECURE = 1, OTP_BOOTLOADER = 2 };
 
 /* Levels of a lock. */
 enum { OTP_READ_WRITE = 0, OTP_READ_ONLY = 1, OTP_NO_ACCESS = 2 };
@@ -89,11 +91,11 @@ enum {
     OTP_REFUSED_LENGTH = 1,   /* there are not 4,096 rows */
     OTP_REFUSED_ROW = 2,      /* the row is above 4,095, or the vote group runs past row 4,095 */
     OTP_REFUSED_ENTRY = 3,    /* an entry of the rows that this call uses is above 16,777,215 */
-    OTP_REFUSED_ARGUMENT = 4, /* caller above 1, page above 63, level above 2, domain above 1, vote count neither 3 nor 8, key not
+    OTP_REFUSED_ARGUMENT = 4, /* caller above 2, page above 63, level above 2, domain above 2, vote count neither 3 nor 8, key not
                                  16 bytes, ECC value above 65,535, or raw value above 16,777,215 */
     OTP_REFUSED_ECC = 5,      /* ECC on a row from 0xf80 up, or a vote group with any such row */
     OTP_REFUSED_KEY = 6,      /* a row of a latched valid key */
-    OTP_REFUSED_LOCK = 7,     /* the locks and keys do not allow it */
+    OTP_REFUSED_LOCK = 7,     /* the locks and keys do not allow it, or it is not for this caller to do */
     OTP_REFUSED_CODE = 8,     /* ECC read: no value has a code within one bit */
     OTP_REFUSED_FIT = 9,      /* ECC write: neither polarity fits over the bits already set */
     OTP_REFUSED_JOB = 10,     /* the job's bytes are malformed */
@@ -125,13 +127,14 @@ typedef struct {
    by words. */
 typedef struct {
     OTP_ALIGNAS(4)
-    uint8_t secure[OTP_PAGES];    /* the lock level for Secure; above OTP_NO_ACCESS counts as that */
-    uint8_t nonsecure[OTP_PAGES]; /* the lock level for Non-secure */
-    uint8_t writekey[OTP_PAGES];  /* the key that opens the page for writing: 0 none, 1 to 6 a key, 7 never matches; above 7 counts as 7 */
-    uint8_t readkey[OTP_PAGES];   /* the key that opens the page for reading only, numbered as those for writing */
-    bool nokey[OTP_PAGES];        /* where a key is registered and none matches: false is read only, true is no access */
-    otp_key keys[6];              /* the keys */
-    uint16_t entered[8];          /* the entered key; all zeros means that none is entered */
+    uint8_t secure[OTP_PAGES];     /* the lock level for Secure; above OTP_NO_ACCESS counts as that, in each of the three domains */
+    uint8_t nonsecure[OTP_PAGES];  /* the lock level for Non-secure */
+    uint8_t bootloader[OTP_PAGES]; /* the lock level for the bootloader, as it was burnt: no call advances it */
+    uint8_t writekey[OTP_PAGES];   /* the key that opens the page for writing: 0 none, 1 to 6 a key, 7 never matches; above 7 counts as 7 */
+    uint8_t readkey[OTP_PAGES];    /* the key that opens the page for reading only, numbered as those for writing */
+    bool nokey[OTP_PAGES];         /* where a key is registered and none matches: false is read only, true is no access */
+    otp_key keys[6];               /* the keys */
+    uint16_t entered[8];           /* the entered key; all zeros means that none is entered */
 } otp_state;
 
 /* What a call that can change the state answers: the answer, and the state to go on with. */
@@ -166,7 +169,8 @@ OTP_LAST(otp_key, whole);
 
 OTP_FIRST(otp_state, secure);
 OTP_NEXT(otp_state, secure, nonsecure);
-OTP_NEXT(otp_state, nonsecure, writekey);
+OTP_NEXT(otp_state, nonsecure, bootloader);
+OTP_NEXT(otp_state, bootloader, writekey);
 OTP_NEXT(otp_state, writekey, readkey);
 OTP_NEXT(otp_state, readkey, nokey);
 OTP_NEXT(otp_state, nokey, keys);
@@ -212,14 +216,15 @@ otp_outcome otp_write_raw(uint32_t *rows, uint64_t rows_len, otp_state state, ui
 otp_outcome otp_write_ecc(uint32_t *rows, uint64_t rows_len, otp_state state, uint32_t caller, uint32_t row, uint32_t value);
 
 /* Advances the lock of a page in a domain, OTP_SECURE or OTP_NONSECURE, to a level, until the next reset. An equal or lower level is
-   done and changes nothing. Secure may advance both domains, Non-secure only its own. Numbers 0, 4, 7. */
+   done and changes nothing. Secure may advance both of these, Non-secure only its own, and the bootloader none. The bootloader's own lock
+   is only burnt: to advance OTP_BOOTLOADER is 7 for every caller, at any level. Numbers 0, 4, 7. */
 otp_outcome otp_advance(otp_state state, uint32_t caller, uint32_t domain, uint32_t page, uint32_t level);
 
-/* Shows the lock level of a page in a domain, as the value. Both callers may show both. Numbers 0, 4. */
+/* Shows the lock level of a page in a domain, as the value. Every caller may show all three domains. Numbers 0, 4. */
 otp_answer  otp_show(otp_state state, uint32_t caller, uint32_t domain, uint32_t page);
 
-/* Enters a key of 16 bytes, low byte first, in place of any entered before. Only Secure may. That it is done does not say that it
-   matches a key. 16 zeros mean that none is entered. Numbers 0, 4, 7. */
+/* Enters a key of 16 bytes, low byte first, in place of any entered before. Only Secure may: for the bootloader it is 7 too. That it is
+   done does not say that it matches a key. 16 zeros mean that none is entered. Numbers 0, 4, 7. */
 otp_outcome otp_enter_key(otp_state state, uint32_t caller, const uint8_t *key, uint64_t key_len);
 
 /* Runs a job as Secure. All of it is judged before the first bit is burnt, so a job is burnt whole or not at all.

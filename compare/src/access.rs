@@ -6,7 +6,7 @@ use crate::ladder::need;
 use crate::model::Model;
 use crate::permission::{may_read, may_write};
 use crate::row::{newly_set, vote};
-use crate::shape::{Answer, State, CALLERS, LARGEST, LOCK_ROWS, ROWS};
+use crate::shape::{Answer, State, LARGEST, LOCK_ROWS, ROWS};
 use crate::wear::{decoded, other, undecoded};
 
 impl Model {
@@ -30,7 +30,7 @@ impl Model {
 
     pub fn raw_read(&self, rows: &[u32], state: &State, caller: u32, row: u32) -> Result<Answer, u32> {
         need(rows.len() == ROWS, 1)?;
-        need(caller < CALLERS, 4)?;
+        need(self.is_caller(caller), 4)?;
         need(row <= 4095, 2)?;
         let entry = self.entry_to_read(rows, state, caller, row)?;
         Ok(other(self.fault, Fault::RawFlags, entry, Answer::value(entry)))
@@ -38,7 +38,7 @@ impl Model {
 
     pub fn ecc_read(&self, rows: &[u32], state: &State, caller: u32, row: u32) -> Result<Answer, u32> {
         need(rows.len() == ROWS, 1)?;
-        need(caller < CALLERS, 4)?;
+        need(self.is_caller(caller), 4)?;
         need(row <= 4095, 2)?;
         need(row < LOCK_ROWS, 5)?;
         let entry = self.entry_to_read(rows, state, caller, row)?;
@@ -50,7 +50,7 @@ impl Model {
 
     pub fn vote(&self, rows: &[u32], state: &State, caller: u32, row: u32, count: u32) -> Result<u32, u32> {
         need(rows.len() == ROWS, 1)?;
-        need(caller < CALLERS, 4)?;
+        need(self.is_caller(caller), 4)?;
         need(count == 3 || count == 8, 4)?;
         let end = u64::from(row) + u64::from(count);
         need(end <= 4096, 2)?;
@@ -70,7 +70,7 @@ impl Model {
     /// What a raw write leaves in the row, and its refusals.
     pub fn raw_write(&self, rows: &[u32], state: &State, caller: u32, row: u32, value: u32) -> Result<u32, u32> {
         need(rows.len() == ROWS, 1)?;
-        need(caller < CALLERS, 4)?;
+        need(self.is_caller(caller), 4)?;
         need(value <= LARGEST, 4)?;
         need(row <= 4095, 2)?;
         let old = self.entry_to_write(rows, state, caller, row)?;
@@ -80,7 +80,7 @@ impl Model {
     /// What an ECC write leaves in the row, and its refusals.
     pub fn ecc_write(&self, rows: &[u32], state: &State, caller: u32, row: u32, value: u32) -> Result<u32, u32> {
         need(rows.len() == ROWS, 1)?;
-        need(caller < CALLERS, 4)?;
+        need(self.is_caller(caller), 4)?;
         need(value <= 0xffff, 4)?;
         need(row <= 4095, 2)?;
         need(row < LOCK_ROWS, 5)?;

@@ -31,7 +31,7 @@ fn far(random: &mut Random) -> u32 {
 
 pub fn caller(random: &mut Random) -> u32 {
     match random.below(24) {
-        0 => random.pick(&[2, 3, 255, 256]),
+        0 => random.pick(&[3, 4, 255, 256, 258]),
         1 => far(random),
         _ => random.below(CALLERS),
     }

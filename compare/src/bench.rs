@@ -87,10 +87,10 @@ impl<'a> Bench<'a> {
         }
         let (page, from) = (owner(row), key_page(None, row));
         let state = &self.state;
-        let (secure, nonsecure) = (state.secure[page], state.nonsecure[page]);
+        let levels = [state.secure[page], state.nonsecure[page], state.bootloader[page]];
         let (write, read, nokey) = (state.writekey[from], state.readkey[from], state.nokey[from]);
         format!(
-            " (the row held {:#08x}; page {page}: levels {secure} {nonsecure}; page {from}: keys {write} {read}, no-key {nokey})",
+            " (the row held {:#08x}; page {page}: levels {levels:?}; page {from}: keys {write} {read}, no-key {nokey})",
             self.theirs[row as usize]
         )
     }

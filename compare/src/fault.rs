@@ -50,6 +50,30 @@ faults! {
     RawFlags          "raw-flags"           "a raw read says the row's polarity and whether its bits disagree";
     WriteFlags        "write-flags"         "a write says both of the row that it leaves";
     WornKey           "worn-key"            "a key row with disagreeing bits does not decode";
+    BootBits76        "boot-bits-7-6"       "the bootloader's level is latched from bits 7:6";
+    BootBits32        "boot-bits-3-2"       "the bootloader's level is latched from bits 3:2, which are Non-secure's";
+    BootField3        "boot-field-3"        "the bootloader's field 3 is latched as 3";
+    BootUnlatched     "boot-unlatched"      "reset leaves the bootloader's level at 0";
+    BootKept          "boot-kept"           "reset keeps the bootloader's levels as they were";
+    BootReadOwn       "boot-read-own"       "the bootloader's read leaves out its own level";
+    BootReadSecure    "boot-read-secure"    "the bootloader's read leaves out Secure's level";
+    BootReadKey       "boot-read-key"       "the bootloader's read leaves out the key level";
+    BootWriteOwn      "boot-write-own"      "the bootloader's write leaves out its own level";
+    BootWriteSecure   "boot-write-secure"   "the bootloader's write leaves out Secure's level";
+    BootWriteKey      "boot-write-key"      "the bootloader's write leaves out the key level";
+    BootAsNonsecure   "boot-as-nonsecure"   "the bootloader goes by Non-secure's rule";
+    SecureAsBoot      "secure-as-boot"      "Secure, and jobs with it, is held to the bootloader's level too";
+    AdvanceDomain2    "advance-domain-2"    "Secure advances the bootloader's lock";
+    Domain2Equal      "domain-2-equal"      "the bootloader's lock, asked for an equal or lower level, is done";
+    BootAdvances      "boot-advances"       "the bootloader advances as Secure does";
+    AdvanceMovesBoot  "advance-moves-boot"  "advancing Non-secure's lock sets the bootloader's level too";
+    BootAdvance7First "boot-advance-first"  "the bootloader's advance is 7 before page and level are looked at";
+    BootEntersKey     "boot-enters-key"     "the bootloader enters a key";
+    BootKey7First     "boot-key-first"      "the bootloader's key is 7 before its length is looked at";
+    Caller2Refused    "caller-2-refused"    "caller 2 is still 4";
+    Caller3Allowed    "caller-3-allowed"    "caller 3 is allowed";
+    Domain2Unshown    "domain-2-unshown"    "domain 2 is still 4";
+    Domain3Allowed    "domain-3-allowed"    "domain 3 is allowed";
 }
 
 /// The fault of a name.

@@ -169,8 +169,9 @@ fn lock_row(random: &mut Random, byte: fn(&mut Random) -> u32) -> u32 {
 }
 
 fn levels(random: &mut Random) -> u32 {
-    let spare = if random.once_in(4) { random.below(16) << 4 } else { 0 };
-    random.pick(&[0, 0, 1, 2, 3]) | random.pick(&[0, 0, 1, 2, 3]) << 2 | spare
+    let field = |random: &mut Random| random.pick(&[0, 0, 1, 2, 3]);
+    let spare = if random.once_in(4) { random.below(4) << 6 } else { 0 };
+    field(random) | field(random) << 2 | field(random) << 4 | spare
 }
 
 fn key_settings(random: &mut Random) -> u32 {

@@ -2,7 +2,7 @@
 
 use crate::fault::Fault;
 use crate::row::bit;
-use crate::shape::{State, LOCK_ROWS, SECURE};
+use crate::shape::{State, LOCK_ROWS, NONSECURE, SECURE};
 
 /// The page whose lock levels guard a row. Lock words guard themselves.
 pub fn owner(row: u32) -> usize {
@@ -48,8 +48,19 @@ fn field(bits: u32) -> u8 {
     }
 }
 
+/// The bootloader's level: bits 5:4 of the high lock row (request 2026-05).
+fn bootloader(fault: Option<Fault>, high: u32) -> u8 {
+    match fault {
+        Some(Fault::BootBits76) => field(high >> 6),
+        Some(Fault::BootBits32) => field(high >> 2),
+        Some(Fault::BootField3) => (high >> 4 & 3) as u8,
+        Some(Fault::BootUnlatched) => 0,
+        _ => field(high >> 4),
+    }
+}
+
 /// Latches one page's lock word.
-pub fn latch(rows: &[u32], page: usize, state: &mut State) {
+pub fn latch(fault: Option<Fault>, rows: &[u32], page: usize, state: &mut State) {
     let place = LOCK_ROWS as usize + 2 * page;
     let low = voted(rows[place]);
     let high = voted(rows[place + 1]);
@@ -58,13 +69,15 @@ pub fn latch(rows: &[u32], page: usize, state: &mut State) {
     state.nokey[page] = bit(low, 6);
     state.secure[page] = field(high);
     state.nonsecure[page] = field(high >> 2);
+    state.bootloader[page] = bootloader(fault, high);
 }
 
 /// The level of a domain at a page; above 2 counts as 2.
 pub fn level(fault: Option<Fault>, state: &State, domain: u32, page: usize) -> u32 {
     let latched = match domain {
         SECURE => state.secure[page],
-        _ => state.nonsecure[page],
+        NONSECURE => state.nonsecure[page],
+        _ => state.bootloader[page],
     };
     if fault == Some(Fault::LevelWraps) {
         return u32::from(field(u32::from(latched)));

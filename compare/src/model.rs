@@ -4,6 +4,7 @@ use std::rc::Rc;
 
 use crate::code::Codes;
 use crate::fault::Fault;
+use crate::shape::{BOOTLOADER, CALLERS, DOMAINS};
 
 #[derive(Clone)]
 pub struct Model {
@@ -29,5 +30,23 @@ impl Model {
 
     pub fn has(&self, fault: Fault) -> bool {
         self.fault == Some(fault)
+    }
+
+    /// Whether there is such a caller: Secure, Non-secure or the bootloader.
+    pub fn is_caller(&self, caller: u32) -> bool {
+        match self.fault {
+            Some(Fault::Caller2Refused) => caller < BOOTLOADER,
+            Some(Fault::Caller3Allowed) => caller <= CALLERS,
+            _ => caller < CALLERS,
+        }
+    }
+
+    /// Whether there is such a lock domain, one for each caller.
+    pub fn is_domain(&self, domain: u32) -> bool {
+        match self.fault {
+            Some(Fault::Domain2Unshown) => domain < BOOTLOADER,
+            Some(Fault::Domain3Allowed) => domain <= DOMAINS,
+            _ => domain < DOMAINS,
+        }
     }
 }

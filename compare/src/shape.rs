@@ -12,9 +12,10 @@ pub const LOCK_ROWS: u32 = 0xf80;
 /// The callers, which are the domains of the locks too.
 pub const SECURE: u32 = 0;
 pub const NONSECURE: u32 = 1;
+pub const BOOTLOADER: u32 = 2;
 /// How many callers there are, and how many domains.
-pub const CALLERS: u32 = 2;
-pub const DOMAINS: u32 = 2;
+pub const CALLERS: u32 = 3;
+pub const DOMAINS: u32 = 3;
 
 /// The conditions of an ECC read.
 pub const CLEAN: u32 = 0;
@@ -82,6 +83,7 @@ shape! {
     State {
         secure: [u8; 64],
         nonsecure: [u8; 64],
+        bootloader: [u8; 64],
         writekey: [u8; 64],
         readkey: [u8; 64],
         nokey: [bool; 64],

@@ -1,4 +1,5 @@
-//! States made by hand: levels above 2, indexes above 7, keys whole and damaged, entered and not.
+//! States made by hand: drawn, with levels above 2, indexes above 7, keys whole and damaged, entered and not; and set page by
+//! page for the calls that go through every choice.
 
 use crate::images::Image;
 use crate::random::Random;
@@ -29,6 +30,7 @@ fn set_page(random: &mut Random, state: &mut State, page: usize) {
     let State {
         secure,
         nonsecure,
+        bootloader,
         writekey,
         readkey,
         nokey,
@@ -37,12 +39,46 @@ fn set_page(random: &mut Random, state: &mut State, page: usize) {
     } = state;
     secure[page] = level(random);
     nonsecure[page] = level(random);
+    bootloader[page] = level(random);
     writekey[page] = index(random);
     readkey[page] = index(random);
     nokey[page] = random.coin();
 }
 
-/// A whole state made by hand, with few pages locked or many.
+const ENTERED: [u16; 8] = [0x1234; 8];
+const OTHER: [u16; 8] = [0x5678; 8];
+
+/// Keys 1 and 2 are valid, and the first of them is entered or none is.
+pub fn with_keys(entered: bool) -> State {
+    let mut state = State::blank();
+    for (key, words) in state.keys.iter_mut().zip([ENTERED, OTHER]) {
+        *key = Key {
+            words,
+            valid: true,
+            whole: true,
+        };
+    }
+    if entered {
+        state.entered = ENTERED;
+    }
+    state
+}
+
+/// Sets a page's write key, read key and no-key state.
+pub fn set_keys(state: &mut State, page: usize, (write, read, no_key): (u8, u8, bool)) {
+    state.writekey[page] = write;
+    state.readkey[page] = read;
+    state.nokey[page] = no_key;
+}
+
+/// Sets a page's levels: Secure, Non-secure, bootloader.
+pub fn set_levels(state: &mut State, page: usize, [secure, nonsecure, bootloader]: [u8; 3]) {
+    state.secure[page] = secure;
+    state.nonsecure[page] = nonsecure;
+    state.bootloader[page] = bootloader;
+}
+
+/// A whole state drawn, with few pages locked or many.
 pub fn by_hand(random: &mut Random, image: &Image) -> State {
     let mut state = State::blank();
     let share = random.pick(&[1, 1, 2, 4, 8]);

@@ -38,7 +38,7 @@ fn numbers(caller: u32, word: u32, state: State) -> [u32; 2] {
 #[test]
 fn a_lock_row_is_written_by_the_keys_of_page_62_or_63() {
     for (word, from) in WORDS {
-        for caller in [0, 1] {
+        for caller in [0, 1, 2] {
             for page in [word as usize, 62, 63] {
                 let refused = if page == from { 7 } else { 0 };
                 let (none, entered) = (asking(page, false), asking(page, true));

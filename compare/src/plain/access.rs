@@ -1,13 +1,13 @@
 //! For timings alone: the calls on a row or a vote group.
 
-use crate::plain::chip::{hidden, may_read, may_write};
+use crate::plain::chip::{hidden, may_read, may_write, LAST_CALLER};
 use crate::plain::{answer, refuse_if, row as one, Refusal};
 use crate::shape::{Answer, State, LARGEST, LOCK_ROWS, ROWS};
 
 /// What comes before a row is looked at.
 fn asked(rows: &[u32], caller: u32, row: u32, coded: bool, too_large: bool) -> Result<(), Refusal> {
     refuse_if(rows.len() != ROWS, 1)?;
-    refuse_if(caller > 1 || too_large, 4)?;
+    refuse_if(caller > LAST_CALLER || too_large, 4)?;
     refuse_if(row as usize >= ROWS, 2)?;
     refuse_if(coded && row >= LOCK_ROWS, 5)
 }
@@ -40,7 +40,7 @@ pub fn read_vote(rows: &[u32], state: &State, caller: u32, row: u32, count: u32)
 
 fn voted(rows: &[u32], state: &State, caller: u32, row: u32, count: u32) -> Result<Answer, Refusal> {
     refuse_if(rows.len() != ROWS, 1)?;
-    refuse_if(caller > 1 || (count != 3 && count != 8), 4)?;
+    refuse_if(caller > LAST_CALLER || (count != 3 && count != 8), 4)?;
     refuse_if(row > ROWS as u32 - count, 2)?;
     refuse_if(row + count > LOCK_ROWS, 5)?;
     let mut gathered = [0; 8];

@@ -1,10 +1,12 @@
 //! For timings alone: the state, with reset, locks, keys, and who may read and write a row.
 
 use crate::plain::{answer, refuse_if, row, Refusal};
-use crate::shape::{Answer, Key, State, LARGEST, LOCK_ROWS, NONSECURE, ROWS, SECURE};
+use crate::shape::{Answer, Key, State, BOOTLOADER, LARGEST, LOCK_ROWS, NONSECURE, ROWS, SECURE};
 
 const KEY_ROWS: usize = 0xf48;
 const FLAG_ROWS: usize = 0xf79;
+pub const LAST_CALLER: u32 = BOOTLOADER;
+const LAST_DOMAIN: u32 = BOOTLOADER;
 
 /// What at least two of a lock row's three bytes have.
 fn voted(row: u32) -> u8 {
@@ -45,6 +47,7 @@ fn latched(rows: &[u32]) -> Result<State, Refusal> {
         state.nokey[page] = (low >> 6) & 1 == 1;
         state.secure[page] = (high & 3).min(2);
         state.nonsecure[page] = ((high >> 2) & 3).min(2);
+        state.bootloader[page] = ((high >> 4) & 3).min(2);
     }
     for (i, key) in state.keys.iter_mut().enumerate() {
         *key = latched_key(&rows[KEY_ROWS + 8 * i..][..8], rows[FLAG_ROWS + i]);
@@ -68,7 +71,8 @@ fn key_page(row: u32) -> usize {
 fn level(state: &State, domain: u32, page: usize) -> u8 {
     match domain {
         SECURE => state.secure[page].min(2),
-        _ => state.nonsecure[page].min(2),
+        NONSECURE => state.nonsecure[page].min(2),
+        _ => state.bootloader[page].min(2),
     }
 }
 
@@ -99,13 +103,17 @@ pub fn hidden(state: &State, row: u32) -> bool {
 }
 
 pub fn may_read(state: &State, caller: u32, row: u32) -> bool {
-    row >= LOCK_ROWS || level(state, caller, owner(row)).max(key_level(state, key_page(row))) <= 1
+    let page = owner(row);
+    row >= LOCK_ROWS
+        || level(state, caller, page) <= 1
+            && (caller != BOOTLOADER || level(state, SECURE, page) <= 1)
+            && key_level(state, key_page(row)) <= 1
 }
 
 pub fn may_write(state: &State, caller: u32, row: u32) -> bool {
     let page = owner(row);
     level(state, SECURE, page) == 0
-        && (caller == SECURE || level(state, NONSECURE, page) == 0)
+        && (caller == SECURE || level(state, caller, page) == 0)
         && key_level(state, key_page(row)) == 0
 }
 
@@ -114,7 +122,11 @@ pub fn advance(state: &mut State, caller: u32, domain: u32, page: u32, asked: u3
 }
 
 fn advanced(state: &mut State, caller: u32, domain: u32, page: u32, asked: u32) -> Result<Answer, Refusal> {
-    refuse_if(caller > 1 || domain > 1 || page > 63 || asked > 2, 4)?;
+    refuse_if(
+        caller > LAST_CALLER || domain > LAST_DOMAIN || page > 63 || asked > 2,
+        4,
+    )?;
+    refuse_if(domain == BOOTLOADER || caller == BOOTLOADER, 7)?;
     refuse_if(caller == NONSECURE && domain == SECURE, 7)?;
     let page = page as usize;
     if asked as u8 > level(state, domain, page) {
@@ -127,17 +139,17 @@ fn advanced(state: &mut State, caller: u32, domain: u32, page: u32, asked: u32) 
 }
 
 pub fn show(state: &State, caller: u32, domain: u32, page: u32) -> Answer {
-    if caller > 1 || domain > 1 || page > 63 {
+    if caller > LAST_CALLER || domain > LAST_DOMAIN || page > 63 {
         return Answer::refused(4);
     }
     Answer::value(u32::from(level(state, domain, page as usize)))
 }
 
 pub fn enter_key(state: &mut State, caller: u32, key: &[u8]) -> Answer {
-    if caller > 1 || key.len() != 16 {
+    if caller > LAST_CALLER || key.len() != 16 {
         return Answer::refused(4);
     }
-    if caller == NONSECURE {
+    if caller != SECURE {
         return Answer::refused(7);
     }
     for (word, bytes) in state.entered.iter_mut().zip(key.chunks_exact(2)) {
