@@ -38,9 +38,11 @@ pub mod face;
 
 pub mod arguments;
 pub mod bench;
+pub mod callers;
 pub mod every;
 pub mod images;
 pub mod jobfiles;
+pub mod lock_bytes;
 pub mod lock_rows;
 pub mod random;
 pub mod run;

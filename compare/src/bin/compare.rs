@@ -6,6 +6,7 @@
 //!     compare --every-read                    every row value read with ECC
 //!     compare --every-write                   every value written with ECC over near-blank rows
 //!     compare --lock-rows                     every lock row written, by the keys and levels of its word and of pages 62 and 63
+//!     compare --callers                       every caller in every domain and at every level, and every byte of a lock row latched
 //!
 //! The command of the driver, its words parted by spaces, stands in OTP_DRIVER, or as the first argument of all.
 //!
@@ -16,22 +17,31 @@ use std::process::ExitCode;
 
 use compare::bench::{Bench, Difference};
 use compare::call::Chip;
+use compare::callers::every_caller;
 use compare::every::{every_read, every_write};
 use compare::face::{self, Library};
 use compare::fault::{named, Fault, FAULTS};
+use compare::lock_bytes::every_lock_byte;
 use compare::lock_rows::every_lock_row;
 use compare::model::Model;
 use compare::run::run;
+
+/// Which calls are made. But for the mix and the faults, they are always the same.
+enum Mode {
+    Mix,
+    Faults,
+    EveryRead,
+    EveryWrite,
+    LockRows,
+    Callers,
+}
 
 struct Wish {
     driver: Option<String>,
     calls: u64,
     seed: u64,
     fault: Option<Fault>,
-    faults: bool,
-    every_read: bool,
-    every_write: bool,
-    lock_rows: bool,
+    mode: Mode,
 }
 
 /// Reads the command line.
@@ -41,10 +51,7 @@ fn wish() -> Result<Wish, String> {
         calls: 1_000_000,
         seed: 1,
         fault: None,
-        faults: false,
-        every_read: false,
-        every_write: false,
-        lock_rows: false,
+        mode: Mode::Mix,
     };
     let mut numbers = Vec::new();
     let mut words = std::env::args().skip(1).peekable();
@@ -55,10 +62,11 @@ fn wish() -> Result<Wish, String> {
                 let name = words.next().unwrap_or_default();
                 wish.fault = Some(named(&name).ok_or(format!("no fault is named '{name}'"))?);
             }
-            "--faults" => wish.faults = true,
-            "--every-read" => wish.every_read = true,
-            "--every-write" => wish.every_write = true,
-            "--lock-rows" => wish.lock_rows = true,
+            "--faults" => wish.mode = Mode::Faults,
+            "--every-read" => wish.mode = Mode::EveryRead,
+            "--every-write" => wish.mode = Mode::EveryWrite,
+            "--lock-rows" => wish.mode = Mode::LockRows,
+            "--callers" => wish.mode = Mode::Callers,
             _ => numbers.push(word.parse::<u64>().map_err(|_| format!("not understood: '{word}'"))?),
         }
     }
@@ -119,10 +127,16 @@ fn every(
     Ok(())
 }
 
-fn lock_rows(wish: &Wish, library: &Library, sound: &Model) -> Result<(), String> {
+/// Makes calls on a bench, the same ones each time.
+type Calls = fn(&mut Bench) -> Result<(), Difference>;
+
+/// Every lock row, or every caller: one list of calls after another, on one bench.
+fn all_of(calls: &[Calls], wish: &Wish, library: &Library, sound: &Model) -> Result<(), String> {
     let model = wish.fault.map_or(sound.clone(), Model::faulty);
     let mut bench = Bench::new(library, &model);
-    every_lock_row(&mut bench).map_err(|Difference(line)| line)?;
+    for each in calls {
+        each(&mut bench).map_err(|Difference(line)| line)?;
+    }
     println!("{} calls compared, 0 differ", bench.tally.calls);
     Ok(())
 }
@@ -144,16 +158,13 @@ fn main() -> ExitCode {
     };
     println!("compared with {}", face::NAME);
     let sound = Model::sound();
-    let done = if wish.faults {
-        faults(&wish, &library, &sound)
-    } else if wish.every_read {
-        every(every_read, &wish, &library, &sound)
-    } else if wish.every_write {
-        every(every_write, &wish, &library, &sound)
-    } else if wish.lock_rows {
-        lock_rows(&wish, &library, &sound)
-    } else {
-        compare(&wish, &library, &sound)
+    let done = match wish.mode {
+        Mode::Mix => compare(&wish, &library, &sound),
+        Mode::Faults => faults(&wish, &library, &sound),
+        Mode::EveryRead => every(every_read, &wish, &library, &sound),
+        Mode::EveryWrite => every(every_write, &wish, &library, &sound),
+        Mode::LockRows => all_of(&[every_lock_row], &wish, &library, &sound),
+        Mode::Callers => all_of(&[every_caller, every_lock_byte], &wish, &library, &sound),
     };
     match done {
         Ok(()) => ExitCode::SUCCESS,
