@@ -49,28 +49,28 @@ static void sum_rows(void)
 }
 
 /* Takes on all that a call left. */
-static void took(uint32_t kind)
+static void took(uint32_t kind, uint32_t caller)
 {
     sum(kind);
     sum_bytes(&answer, sizeof answer);
     sum_bytes(&state, sizeof state);
     sum_rows();
-    tally(kind, &answer);
+    tally(kind, caller, &answer);
     if (++made % EVERY == 0)
         printf("%6u calls, checksum %08x\n", (unsigned)made, (unsigned)checksum);
 }
 
-static void keep(uint32_t kind, otp_outcome outcome)
+static void keep(uint32_t kind, uint32_t caller, otp_outcome outcome)
 {
     answer = outcome.answer;
     state = outcome.state;
-    took(kind);
+    took(kind, caller);
 }
 
-static void keep_answer(uint32_t kind, otp_answer given)
+static void keep_answer(uint32_t kind, uint32_t caller, otp_answer given)
 {
     answer = given;
-    took(kind);
+    took(kind, caller);
 }
 
 /* Enters the key that is burnt, or one like it. */
@@ -81,7 +81,7 @@ static void enter_some_key(void)
     memcpy(given, key, OTP_KEY_BYTES);
     if (once_in(4))
         flip(given, OTP_KEY_BYTES);
-    keep(ENTER_KEY, otp_enter_key(state, caller, given, bytes));
+    keep(ENTER_KEY, caller, otp_enter_key(state, caller, given, bytes));
 }
 
 /* Flips a flag bit of a row, another bit, or both, or neither. */
@@ -97,15 +97,15 @@ static void some_read(void)
     uint64_t length = some_length();
     switch (below(3)) {
     case 0:
-        keep_answer(READ_RAW, otp_read_raw(rows, length, state, caller, row));
+        keep_answer(READ_RAW, caller, otp_read_raw(rows, length, state, caller, row));
         break;
     case 1:
         if (row < OTP_ROWS && once_in(4))
             wear(row);
-        keep_answer(READ_ECC, otp_read_ecc(rows, length, state, caller, row));
+        keep_answer(READ_ECC, caller, otp_read_ecc(rows, length, state, caller, row));
         break;
     default:
-        keep_answer(READ_VOTE, otp_read_vote(rows, length, state, caller, row, once_in(8) ? EDGE(0, 2, 4, 9, 0xffffffff) : EDGE(3, 8)));
+        keep_answer(READ_VOTE, caller, otp_read_vote(rows, length, state, caller, row, once_in(8) ? EDGE(0, 2, 4, 9, 0xffffffff) : EDGE(3, 8)));
     }
 }
 
@@ -114,9 +114,9 @@ static void some_write(void)
     uint32_t caller = some_caller(), row = some_row();
     uint64_t length = some_length();
     if (once_in(3))
-        keep(WRITE_RAW, otp_write_raw(rows, length, state, caller, row, some_raw()));
+        keep(WRITE_RAW, caller, otp_write_raw(rows, length, state, caller, row, some_raw()));
     else
-        keep(WRITE_ECC, otp_write_ecc(rows, length, state, caller, row, some_value()));
+        keep(WRITE_ECC, caller, otp_write_ecc(rows, length, state, caller, row, some_value()));
 }
 
 static void some_run(void)
@@ -124,25 +124,25 @@ static void some_run(void)
     uint32_t bytes = some_job();
     uint64_t length = some_length();
     if (once_in(2))
-        keep(RUN_JOB, otp_run_job(rows, length, state, job, bytes));
+        keep(RUN_JOB, NO_CALLER, otp_run_job(rows, length, state, job, bytes));
     else
-        keep(REHEARSE, otp_rehearse(rows, length, state, job, bytes, once_in(4) ? EDGE(0, 1, 0xffffffff) : below(200)));
+        keep(REHEARSE, NO_CALLER, otp_rehearse(rows, length, state, job, bytes, once_in(4) ? EDGE(0, 1, 0xffffffff) : below(200)));
 }
 
 static void some_lock(void)
 {
     uint32_t caller = some_caller(), domain = some_domain(), page = some_page();
     if (once_in(2))
-        keep_answer(SHOW, otp_show(state, caller, domain, page));
+        keep_answer(SHOW, caller, otp_show(state, caller, domain, page));
     else
-        keep(ADVANCE, otp_advance(state, caller, domain, page, some_level()));
+        keep(ADVANCE, caller, otp_advance(state, caller, domain, page, some_level()));
 }
 
 static void some_call(void)
 {
     switch (below(16)) {
     case 0:
-        keep(RESET, otp_reset(rows, some_length(), state));
+        keep(RESET, NO_CALLER, otp_reset(rows, some_length(), state));
         break;
     case 1:
         enter_some_key();
@@ -170,7 +170,7 @@ static void some_call(void)
 static void burn_lock(uint32_t row, uint32_t byte)
 {
     uint32_t worn = once_in(2) ? 1u << below(24) : 0;
-    keep(WRITE_RAW, otp_write_raw(rows, OTP_ROWS, state, OTP_SECURE, row, byte * 0x010101 & ~worn));
+    keep(WRITE_RAW, OTP_SECURE, otp_write_raw(rows, OTP_ROWS, state, OTP_SECURE, row, byte * 0x010101 & ~worn));
 }
 
 static void fill(void *bytes, size_t size)
@@ -184,9 +184,11 @@ static void burn_key(void)
 {
     uint32_t k = below(6), page = below(4), other = below(8), no_key = below(2);
     fill(key, sizeof key);
-    for (uint32_t i = 0; i < 8; i++)
-        keep(WRITE_ECC, otp_write_ecc(rows, OTP_ROWS, state, OTP_SECURE, FIRST_KEY_ROW + 8 * k + i, key[2 * i] + 256u * key[2 * i + 1]));
-    keep(WRITE_RAW, otp_write_raw(rows, OTP_ROWS, state, OTP_SECURE, FIRST_VALID_ROW + k, 0x010101));
+    for (uint32_t i = 0; i < 8; i++) {
+        uint32_t word = key[2 * i] + 256u * key[2 * i + 1];
+        keep(WRITE_ECC, OTP_SECURE, otp_write_ecc(rows, OTP_ROWS, state, OTP_SECURE, FIRST_KEY_ROW + 8 * k + i, word));
+    }
+    keep(WRITE_RAW, OTP_SECURE, otp_write_raw(rows, OTP_ROWS, state, OTP_SECURE, FIRST_VALID_ROW + k, 0x010101));
     burn_lock(FIRST_LOCK_ROW + 2 * page, k + 1 + 8 * other + 64 * no_key);
 }
 
@@ -234,7 +236,7 @@ static void new_chip(void)
         wear_often_used();
     if (once_in(2))
         sprinkle(4, 0);
-    keep(RESET, otp_reset(rows, OTP_ROWS, state));
+    keep(RESET, NO_CALLER, otp_reset(rows, OTP_ROWS, state));
     if (once_in(4))
         sprinkle(4, 0x1000000);
     if (once_in(8))

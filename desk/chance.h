@@ -60,8 +60,9 @@ static uint32_t some_bits(void)
     return bits & chance();
 }
 
-static uint32_t some_caller(void) { return once_in(20) ? EDGE(2, 3, 0x100, 0xffffffff) : below(2); }
-static uint32_t some_domain(void) { return once_in(20) ? EDGE(2, 3, 0xffffffff) : below(2); }
+/* Three callers, and a lock domain of each; 0x102 is the bootloader's number in its lowest byte. */
+static uint32_t some_caller(void) { return once_in(20) ? EDGE(3, 0x100, 0x102, 0xffffffff) : below(3); }
+static uint32_t some_domain(void) { return once_in(20) ? EDGE(3, 0x102, 0xffffffff) : below(3); }
 static uint32_t some_page(void) { return once_in(20) ? EDGE(OTP_PAGES, 0x100, 0xffffffff) : below(once_in(2) ? 4 : OTP_PAGES); }
 static uint32_t some_level(void) { return once_in(20) ? EDGE(3, 0xffffffff) : below(3); }
 static uint32_t some_raw(void) { return once_in(20) ? EDGE(0x1000000, 0xffffffff) : some_bits(); }

@@ -1,6 +1,6 @@
 /* The instructions and the most stack that each call of libotp.a takes on a core of the desk, for docs/TIMINGS.md. Both are measured: the
    emulator counts the instructions, and the call is made once more on a stack of its own that was painted before. Each call is made by
-   Secure and is done (number 0). What C does to pass the state and to take it back is part of the call.
+   Secure, but for one read by the bootloader, and is done (number 0). What C does to pass the state and to take it back is part of the call.
 
    The board: 512 rows burnt by a job, key 1 burnt and valid, one page behind it, and the key entered. The full chip: every row below
    0xf40 burnt, all six keys whole with a bit of each row worn away, every page locked and registered. */
@@ -41,6 +41,7 @@ static void nothing(void) {}
 static void many(void) { __asm__ volatile(".rept 20000\n\tnop\n\t.endr"); }
 static void reset(void) { KEEP(otp_reset(rows, OTP_ROWS, state)); }
 static void read_raw(void) { answer = otp_read_raw(rows, OTP_ROWS, state, OTP_SECURE, 7); }
+static void read_as_bootloader(void) { answer = otp_read_raw(rows, OTP_ROWS, state, OTP_BOOTLOADER, 7); }
 static void read_ecc(void) { answer = otp_read_ecc(rows, OTP_ROWS, state, OTP_SECURE, 7); }
 static void read_keyed(void) { answer = otp_read_ecc(rows, OTP_ROWS, state, OTP_SECURE, KEYED_ROW); }
 static void read_vote_3(void) { answer = otp_read_vote(rows, OTP_ROWS, state, OTP_SECURE, 8, 3); }
@@ -61,6 +62,7 @@ static const struct {
     {"reset of a blank chip", reset, blank},
     {"reset of a full chip", reset, full},
     {"read raw", read_raw, board},
+    {"read raw as bootloader", read_as_bootloader, board},
     {"read ECC", read_ecc, board},
     {"read ECC behind a key", read_keyed, board},
     {"read a vote of 3", read_vote_3, board},
@@ -124,11 +126,11 @@ static void burn_worn_keys(void)
         rows[row] &= rows[row] - 1;
 }
 
-/* Each page: write key 1, read key 2 and no access without, and read only for both callers. */
+/* Each page: write key 1, read key 2 and no access without, and read only for every caller. */
 static void burn_locks(void)
 {
     for (uint32_t row = FIRST_LOCK_ROW; row < OTP_ROWS; row++)
-        KEEP(otp_write_raw(rows, OTP_ROWS, state, OTP_SECURE, row, row % 2 == 0 ? 0x515151 : 0x050505));
+        KEEP(otp_write_raw(rows, OTP_ROWS, state, OTP_SECURE, row, row % 2 == 0 ? 0x515151 : 0x151515));
 }
 
 static void make_full(void)

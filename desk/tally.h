@@ -1,5 +1,5 @@
-/* What desk/calls.c counts: how often each call gave each number, and how often an ECC read said each condition. One that can be given and
-   never was is an error, and so is a number that the call cannot give. */
+/* What desk/calls.c counts: how often each call gave each number, how often each caller was done and was refused with 7, and how often an ECC
+   read said each condition. One that can be given and never was is an error, and so is a number that the call cannot give. */
 #ifndef TALLY_H
 #define TALLY_H
 
@@ -10,21 +10,25 @@
 
 enum { RESET, READ_RAW, READ_ECC, READ_VOTE, WRITE_RAW, WRITE_ECC, ADVANCE, SHOW, ENTER_KEY, RUN_JOB, REHEARSE, KINDS, NUMBERS = 12 };
 
-/* Each kind of call, and the numbers that it can give: digits in base 16, in the header's order. */
+/* Secure, Non-secure and the bootloader. A call that takes no caller is made by none of them. */
+enum { CALLERS = 3, NO_CALLER = CALLERS };
+
+/* Each kind of call, and the numbers that it can give: digits in base 16, in the header's order. Where it takes a caller, also which of
+   0 and 7 it can give to each. */
 static const struct {
-    const char *name, *numbers;
+    const char *name, *numbers, *to[CALLERS];
 } kinds[KINDS] = {
-    {"reset", "013"},
-    {"read raw", "0142673"},
-    {"read ECC", "014256738"},
-    {"read vote", "01425673"},
-    {"write raw", "0142673"},
-    {"write ECC", "014256739"},
-    {"advance", "047"},
-    {"show", "04"},
-    {"enter key", "047"},
-    {"run job", "01ab739"},
-    {"rehearse", "01ab739"},
+    {"reset", "013", {"", "", ""}},
+    {"read raw", "0142673", {"07", "07", "07"}},
+    {"read ECC", "014256738", {"07", "07", "07"}},
+    {"read vote", "01425673", {"07", "07", "07"}},
+    {"write raw", "0142673", {"07", "07", "07"}},
+    {"write ECC", "014256739", {"07", "07", "07"}},
+    {"advance", "047", {"07", "07", "7"}},
+    {"show", "04", {"0", "0", "0"}},
+    {"enter key", "047", {"0", "7", "7"}},
+    {"run job", "01ab739", {"", "", ""}},
+    {"rehearse", "01ab739", {"", "", ""}},
 };
 
 /* What a done ECC read can say of its row. A row with a worn flag is never inverted. */
@@ -41,11 +45,13 @@ static const struct {
 };
 enum { CONDITIONS = sizeof conditions / sizeof conditions[0] };
 
-static uint32_t gave[KINDS][NUMBERS], said[CONDITIONS];
+static uint32_t gave[KINDS][NUMBERS], gave_to[CALLERS][KINDS][NUMBERS], said[CONDITIONS];
 
-static void tally(uint32_t kind, const otp_answer *answer)
+static void tally(uint32_t kind, uint32_t caller, const otp_answer *answer)
 {
     gave[kind][answer->number % NUMBERS]++;
+    if (caller < CALLERS)
+        gave_to[caller][kind][answer->number % NUMBERS]++;
     if (kind != READ_ECC || answer->number != OTP_DONE)
         return;
     for (uint32_t i = 0; i < CONDITIONS; i++)
@@ -66,6 +72,21 @@ static bool told_numbers(uint32_t kind)
     return all;
 }
 
+/* How often a call gave 0 and 7 to each caller, and whether it gave each caller what it can and no other. */
+static bool told_callers(uint32_t kind)
+{
+    bool all = true;
+    printf("%-10s", kinds[kind].name);
+    for (uint32_t caller = 0; caller < CALLERS; caller++) {
+        uint32_t done = gave_to[caller][kind][OTP_DONE], lock = gave_to[caller][kind][OTP_REFUSED_LOCK];
+        bool can_do = strchr(kinds[kind].to[caller], '0') != NULL, can_lock = strchr(kinds[kind].to[caller], '7') != NULL;
+        printf("   caller %u: %5u %5u", (unsigned)caller, (unsigned)done, (unsigned)lock);
+        all = all && can_do == (done != 0) && can_lock == (lock != 0);
+    }
+    printf("\n");
+    return all;
+}
+
 /* How often an ECC read said a condition, and whether it did. */
 static bool told_condition(uint32_t i)
 {
@@ -78,6 +99,8 @@ static bool all_told(void)
     bool all = true;
     for (uint32_t kind = 0; kind < KINDS; kind++)
         all = told_numbers(kind) && all;
+    for (uint32_t kind = READ_RAW; kind <= ENTER_KEY; kind++)
+        all = told_callers(kind) && all;
     for (uint32_t i = 0; i < CONDITIONS; i++)
         all = told_condition(i) && all;
     if (!all)

@@ -1,9 +1,9 @@
 //! How long each call takes: the library's beside the same rules written plainly in Rust with references, on the same
 //! work; and how long a call takes that only has the shape of one.
 //!
-//! Each call is made by Secure on a board of 512 burnt rows, one page of it behind a key that is entered, and is done.
-//! Before it is timed both sides make it once, and answer, state and rows must be the same. `.ci/timings` builds and
-//! runs this.
+//! Each call is made on a board of 512 burnt rows, one page of it behind a key that is entered, by Secure but for one read
+//! by the bootloader, and is done. Before it is timed both sides make it once, and answer, state and rows must be the same.
+//! `.ci/timings` builds and runs this.
 
 mod work;
 
@@ -11,6 +11,7 @@ use std::hint::black_box;
 use std::process::ExitCode;
 use std::time::{Duration, Instant};
 
+use compare::shape::BOOTLOADER;
 use work::*;
 
 type Library = unsafe extern "C" fn(&mut Work);
@@ -19,10 +20,11 @@ type Plain = fn(&mut Work);
 /// A call: its name, how often it can be made on one work, what it needs of the work, and its two sides.
 struct Timed(&'static str, u32, fn(&mut Work), Library, Plain);
 
-const CALLS: [Timed; 14] = [
+const CALLS: [Timed; 15] = [
     Timed("reset", MANY, as_it_is, work_reset, reset),
     Timed("reset with six keys", MANY, burn_worn_keys, work_reset, reset),
     Timed("read raw", MANY, as_it_is, work_read_raw, read_raw),
+    Timed("read raw as bootloader", MANY, by_bootloader, work_read_raw, read_raw),
     Timed("read ECC", MANY, as_it_is, work_read_ecc, read_ecc),
     Timed("read ECC behind a key", MANY, keyed_row, work_read_ecc, read_ecc),
     Timed("read a vote of 3", MANY, three_rows, work_read_vote, read_vote),
@@ -48,6 +50,10 @@ const MANY: u32 = 64;
 const ONCE: u32 = 1;
 
 fn as_it_is(_: &mut Work) {}
+
+fn by_bootloader(work: &mut Work) {
+    work.caller = BOOTLOADER;
+}
 
 fn keyed_row(work: &mut Work) {
     work.row = KEYED_ROW;
