@@ -2,8 +2,8 @@
  * desk.c: a first program over libotp.a, for the author of a desk's firmware.
  *
  * On an image of a blank chip it keeps a screen's width in a row, reads it with a worn bit and with a worn flag, and locks its page. On a
- * second blank chip it rehearses a job up to a power cut, and then runs it. It prints what happens, and exits 1 where that is not what
- * document 01 and its requests say.
+ * second blank chip it burns the bootloader's lock, so that a USB loader reads the width and cannot write it. On a third it rehearses a
+ * job up to a power cut, and then runs it. It prints what happens, and exits 1 where that is not what document 01 and its requests say.
  *
  *     rt staticlib otp
  *     cc -std=c11 -Iinclude examples/desk.c target/staticlib/libotp.a -o target/desk
@@ -119,6 +119,36 @@ static void keep_a_width(void)
     refused_write(lock_page(state));
 }
 
+/* The high lock row of the page. Bits 5:4 of each of its three bytes are the bootloader's level, which no call advances: it is burnt. */
+enum { LOCK_ROW = 0xf81 + 2 * PAGE, LOCK_BOOTLOADER = OTP_READ_ONLY * 0x101010 };
+
+/* The bootloader reads and writes by its own level and by Secure's. */
+static void ask_as_bootloader(const char *when, otp_state state, uint32_t read, uint32_t write)
+{
+    otp_answer level = otp_show(state, OTP_BOOTLOADER, OTP_BOOTLOADER, PAGE);
+    otp_answer got = otp_read_ecc(rows, OTP_ROWS, state, OTP_BOOTLOADER, ROW);
+    otp_outcome out = otp_write_ecc(rows, OTP_ROWS, state, OTP_BOOTLOADER, ROW, WIDTH);
+    printf("%s: the bootloader has level %u, its read gives number %u, its write %u\n", when, (unsigned)level.value,
+           (unsigned)got.number, (unsigned)out.answer.number);
+    expect("the bootloader's level", level.value, OTP_READ_ONLY);
+    expect("the number of the bootloader's read", got.number, read);
+    expect("the number of the bootloader's write", out.answer.number, write);
+}
+
+/* A burnt lock holds from the next reset on. It stands against the bootloader alone, but what is locked for Secure is locked for it too. */
+static void lock_for_the_bootloader(void)
+{
+    otp_state state = write_width(blank_chip());
+    otp_outcome burnt = otp_write_raw(rows, OTP_ROWS, state, OTP_SECURE, LOCK_ROW, LOCK_BOOTLOADER);
+    expect("the number of the lock's write", burnt.answer.number, OTP_DONE);
+    otp_outcome again = otp_reset(rows, OTP_ROWS, burnt.state);
+    ask_as_bootloader("its lock burnt, and reset", again.state, OTP_DONE, OTP_REFUSED_LOCK);
+    read_width(again.state, OTP_CLEAN, 0);
+    otp_outcome closed = otp_advance(again.state, OTP_SECURE, OTP_SECURE, PAGE, OTP_NO_ACCESS);
+    expect("the number of the advance", closed.answer.number, OTP_DONE);
+    ask_as_bootloader("Secure's lock advanced to 2", closed.state, OTP_REFUSED_LOCK, OTP_REFUSED_LOCK);
+}
+
 /* A job of one entry: row 0x0c0, ECC, value 1. */
 static const uint8_t job[] = {0x4f, 0x54, 0x4a, 0x01, 0x00, 0x01, 0x00, 0xc0, 0x00, 0x00, 0x01, 0x00, 0x00};
 
@@ -147,6 +177,7 @@ static void run_a_job(void)
 int main(void)
 {
     keep_a_width();
+    lock_for_the_bootloader();
     run_a_job();
     return wrong == 0 ? 0 : 1;
 }
