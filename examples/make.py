@@ -31,10 +31,10 @@ def inverted(value):
     return plain(value) ^ 0xFFFFFF
 
 
-def lock(rows, page, secure=0, nonsecure=0, write_key=0, read_key=0, no_key=0):
+def lock(rows, page, secure=0, nonsecure=0, bootloader=0, write_key=0, read_key=0, no_key=0):
     """Burns the lock word of a page: each byte three times."""
     rows[0xF80 + 2 * page] |= (write_key | read_key << 3 | no_key << 6) * 0x010101
-    rows[0xF81 + 2 * page] |= (secure | nonsecure << 2) * 0x010101
+    rows[0xF81 + 2 * page] |= (secure | nonsecure << 2 | bootloader << 4) * 0x010101
 
 
 def key(rows, k, digits):
@@ -73,6 +73,26 @@ def locked():
     # One of three copies of key 3's valid flag: not valid.
     rows[0xF78 + 3] = 0x000001
     lock(rows, 61, nonsecure=2)
+    return rows
+
+
+def loader():
+    """A board whose USB loader has rights of its own. Each page that is named has one value, in its first row."""
+    rows = blank()
+    for page in range(1, 10):
+        rows[64 * page] = plain(0x1000 + page)
+    lock(rows, 1, bootloader=1)
+    lock(rows, 2, bootloader=2)
+    # The bootloader runs as Secure: what Secure may not do, its own level of 0 does not give it.
+    lock(rows, 3, secure=1)
+    lock(rows, 4, secure=2)
+    lock(rows, 5, nonsecure=2)
+    lock(rows, 6, nonsecure=2, bootloader=2)
+    # A field of 3 is level 2. Of page 8's level one copy in three is lost, of page 9's one alone stands: 1, and 0.
+    lock(rows, 7, secure=1, nonsecure=1, bootloader=3)
+    lock(rows, 8, bootloader=1)
+    rows[0xF81 + 2 * 8] &= 0xFFFF00
+    rows[0xF81 + 2 * 9] = 0x002000
     return rows
 
 
@@ -119,6 +139,7 @@ ECC, RAW = 0, 1
 
 image("blank.img", blank())
 image("locked.img", locked())
+image("loader.img", loader())
 image("worn.img", worn())
 image("scrap.img", scrap())
 
