@@ -5,6 +5,7 @@ use crate::reset_refusals;
 use crate::usage;
 use crate::words;
 use crate::words::Words;
+use chip::callers::SECURE;
 use chip::state::State;
 use latch::calls::enter_key;
 use latch::resetting::reset;
@@ -45,7 +46,7 @@ pub fn after_reset(rows: &[u32]) -> Begun {
 // The key is entered by Secure, the only caller that may.
 fn with_key(begun: Begun, key: &[u8; 16]) -> Begun {
     let state = begun.state;
-    let outcome = enter_key(state, 0, key);
+    let outcome = enter_key(state, SECURE, key);
     let next = outcome.state;
     Begun {
         ready: begun.ready,

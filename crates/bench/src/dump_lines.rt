@@ -5,6 +5,9 @@ use crate::print;
 use crate::range::Range;
 use crate::row_names;
 use access::rows::row_at;
+use chip::callers::BOOTLOADER;
+use chip::callers::NONSECURE;
+use chip::callers::SECURE;
 use chip::state::State;
 use screen::tally::one_more;
 
@@ -25,14 +28,28 @@ fn last_columns(readers: &[u8], row: u32) {
     print::end();
 }
 
-// Non-secure may read where Secure may not, if only the Secure level forbids it.
-fn by_readers(secure: bool, nonsecure: bool, row: u32) {
-    if secure && nonsecure {
-        last_columns(b"both", row);
+// The callers that may read the row beside Secure.
+fn beside_secure(nonsecure: bool, bootloader: bool, row: u32) {
+    if nonsecure && bootloader {
+        last_columns(b"all three", row);
         return;
     }
-    if secure {
-        last_columns(b"Secure", row);
+    if nonsecure {
+        last_columns(b"S and N", row);
+        return;
+    }
+    if bootloader {
+        last_columns(b"S and B", row);
+        return;
+    }
+    last_columns(b"Secure", row);
+}
+
+// Where Secure may not read the row, Non-secure may, if only the Secure level forbids it. The bootloader runs as Secure, and may not.
+fn by_readers(state: State, row: u32) {
+    let nonsecure = 0 < allowed(state, NONSECURE, row);
+    if 0 < allowed(state, SECURE, row) {
+        beside_secure(nonsecure, 0 < allowed(state, BOOTLOADER, row), row);
         return;
     }
     if nonsecure {
@@ -42,13 +59,13 @@ fn by_readers(secure: bool, nonsecure: bool, row: u32) {
     last_columns(b"nobody", row);
 }
 
-// "0x0c0  0x230001  0x0001 clean            both"
+// "0x0c0  0x230001  0x0001 clean            all three"
 fn line(state: State, row: u32, bits: u32) {
     print::row(row);
     print::bits_after(b"  ", bits);
     print::text(b"  ");
     ecc::column(row, bits);
-    by_readers(0 < allowed(state, 0, row), 0 < allowed(state, 1, row), row);
+    by_readers(state, row);
 }
 
 // A line for each row of the range; where only those that hold bits are asked for, a blank one has none. How many hold bits.

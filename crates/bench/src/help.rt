@@ -11,10 +11,13 @@ fn on_an_image() {
         b"    LIMIT stops it after so many pulses. --save writes the image as the job leaves it,",
     );
     print::line(b"    never over the image or the job, and over another file only with --replace.");
-    print::line(b"./otp read IMAGE ROW [--raw | --vote 3 | --vote 8] [--non-secure] [--key HEX32]");
     print::line(
-        b"    Reads a row with ECC, as it is, or by a vote of it and the rows that follow it.",
+        b"./otp read IMAGE ROW [--raw | --vote 3 | --vote 8] [--as CALLER | --non-secure] [--key HEX32]",
     );
+    print::line(
+        b"    Reads a row with ECC, as it is, or by a vote of it and the rows that follow it. It reads as",
+    );
+    print::line(b"    Secure, or as the caller that --as names; --non-secure is --as non-secure.");
     print::line(
         b"    With ECC it says which bit was repaired, the polarity, or a worn flag: bits 23 and 22 disagree.",
     );
@@ -23,7 +26,10 @@ fn on_an_image() {
     );
     print::line(b"./otp pages IMAGE [--key HEX32]");
     print::line(
-        b"    The 64 pages: levels, key indexes, no-key state, bits burnt, who may read and write.",
+        b"    The 64 pages: levels, key indexes, no-key state, bits burnt, who may read and write. S is",
+    );
+    print::line(
+        b"    Secure, N Non-secure, B the bootloader, which runs as Secure: the levels of S count for it too.",
     );
 }
 
@@ -32,7 +38,9 @@ fn on_rows_of_an_image() {
     print::line(
         b"    The rows that hold bits, the row FIRST, or all from FIRST to LAST: bits, what ECC reads,",
     );
-    print::line(b"    who may read the row, and the datasheet's name of it.");
+    print::line(
+        b"    who may read the row (S, N and B as in pages), and the datasheet's name of it.",
+    );
     print::line(b"./otp wear IMAGE [FIRST LAST] [--key HEX32]");
     print::line(
         b"    The rows whose ECC read by Secure is repaired, flag worn (bits 23 and 22 disagree) or",
@@ -78,6 +86,7 @@ pub fn run() -> Ended {
         b"IMAGE   16,384 bytes: 4,096 rows, row 0 first, each a 32-bit number, low byte first",
     );
     print::line(b"JOB     the bytes of a job, at most 3,079");
+    print::line(b"CALLER  secure, non-secure or bootloader");
     print::line(b"HEX32   a key: its 16 bytes as 32 hexadecimal digits, byte 0 first");
     print::line(b"ROW, FIRST, LAST, VALUE and LIMIT are decimal, or hexadecimal after 0x.");
     print::line(b"Everything happens after a reset of the image; the key is entered by Secure.");

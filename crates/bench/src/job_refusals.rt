@@ -79,7 +79,7 @@ fn clash(old: u32, value: u16) {
 fn against(rows: &[u32], state: State, number: u32, entry: Entry) {
     let row = entry.row;
     if number == 7 {
-        levels::line(state, 0, row, b", and a write needs both at 0");
+        levels::of_entry(state, row);
     }
     if number == 9 {
         clash(row_at(rows, row), (entry.value % 65536) as u16);

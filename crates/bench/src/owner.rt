@@ -2,6 +2,9 @@
 // (document 01, "Locks", "Keys", "Permission").
 ghost use Prim.Native.Nat.{_≤_, _<_};
 use crate::print;
+use chip::callers::BOOTLOADER;
+use chip::callers::NONSECURE;
+use chip::callers::SECURE;
 use chip::keys::hidden;
 use chip::pages::Page;
 use chip::permission::may_read;
@@ -106,6 +109,7 @@ pub fn lines(state: State, row: u32)
     page_line(row);
     owner_line(row);
     keys_line(row);
-    may_line(b"Secure", allowed(state, 0, row));
-    may_line(b"Non-secure", allowed(state, 1, row));
+    may_line(b"Secure", allowed(state, SECURE, row));
+    may_line(b"Non-secure", allowed(state, NONSECURE, row));
+    may_line(b"Bootloader", allowed(state, BOOTLOADER, row));
 }

@@ -3,11 +3,14 @@ ghost use Prim.Native.Nat.{_<_};
 use crate::owner::allowed;
 use crate::print;
 use access::rows::row_at;
+use chip::callers::BOOTLOADER;
+use chip::callers::NONSECURE;
+use chip::callers::SECURE;
+use chip::callers::shown_level;
 use chip::pages::Page;
 use chip::permission::row_key_level;
 use chip::state::State;
 use chip::state::counted_index;
-use chip::state::counted_level;
 use chip::state::counted_no_key;
 use row::writing::pulses;
 
@@ -16,12 +19,14 @@ use row::writing::pulses;
 pub struct Line {
     pub secure: u32,
     pub nonsecure: u32,
+    pub bootloader: u32,
     pub writekey: u32,
     pub readkey: u32,
     pub nokey: bool,
     pub burnt: u32,
     pub by_secure: u32,
     pub by_nonsecure: u32,
+    pub by_bootloader: u32,
 }
 
 // The bits that are set in a page's 64 rows.
@@ -58,32 +63,34 @@ pub fn line_of(rows: &[u32], state: State, number: u32) -> Line
     let page = Page {
         number: number as u8,
     };
-    let secure = state.secure;
-    let nonsecure = state.nonsecure;
     let writekeys = state.writekey;
     let readkeys = state.readkey;
     let nokeys = state.nokey;
     Line {
-        secure: counted_level(secure, page),
-        nonsecure: counted_level(nonsecure, page),
+        secure: shown_level(state, SECURE, page),
+        nonsecure: shown_level(state, NONSECURE, page),
+        bootloader: shown_level(state, BOOTLOADER, page),
         writekey: counted_index(writekeys, page),
         readkey: counted_index(readkeys, page),
         nokey: counted_no_key(nokeys, page),
         burnt: burnt(rows, number),
-        by_secure: may(state, 0, number),
-        by_nonsecure: may(state, 1, number),
+        by_secure: may(state, SECURE, number),
+        by_nonsecure: may(state, NONSECURE, number),
+        by_bootloader: may(state, BOOTLOADER, number),
     }
 }
 
 pub fn same(a: Line, b: Line) -> bool {
     a.secure == b.secure
         && a.nonsecure == b.nonsecure
+        && a.bootloader == b.bootloader
         && a.writekey == b.writekey
         && a.readkey == b.readkey
         && a.nokey == b.nokey
         && a.burnt == b.burnt
         && a.by_secure == b.by_secure
         && a.by_nonsecure == b.by_nonsecure
+        && a.by_bootloader == b.by_bootloader
 }
 
 // A key index, or a dash where none is registered.
@@ -113,8 +120,8 @@ fn by(may: u32) {
 }
 
 pub fn titles() {
-    print::line(b"                    level   key index   no-key          may");
-    print::line(b" page  rows         S  N    write read  state   burnt   S    N");
+    print::line(b"                    level      key index   no-key          may");
+    print::line(b" page  rows         S  N  B    write read  state   burnt   S    N    B");
 }
 
 // One page on a line of its own.
@@ -127,7 +134,8 @@ pub fn write(page: u32, line: Line)
     print::rows(first, first + 63);
     print::text(b"  ");
     print::number_left(line.secure, 3);
-    print::number_left(line.nonsecure, 5);
+    print::number_left(line.nonsecure, 3);
+    print::number_left(line.bootloader, 5);
     index(line.writekey);
     index(line.readkey);
     no_key(line.nokey);
@@ -136,5 +144,7 @@ pub fn write(page: u32, line: Line)
     by(line.by_secure);
     print::text(b"  ");
     by(line.by_nonsecure);
+    print::text(b"  ");
+    by(line.by_bootloader);
     print::end();
 }

@@ -120,7 +120,8 @@ fn show(rows: &[u32; 4096], state: State) {
     titles();
     lines(rows, state);
     print::end();
-    print::line(b"S is Secure, N Non-secure. Level 0 reads and writes, 1 reads, 2 does neither.");
+    print::line(b"Level 0 reads and writes, 1 reads, 2 does neither. S is Secure, N Non-secure,");
+    print::line(b"B the bootloader. The level of S counts for B too, and for N where it writes.");
     print::line(
         b"* A lock row is always read. Writing it goes by the levels of the page it locks,",
     );

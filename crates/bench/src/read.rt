@@ -1,6 +1,7 @@
 // `otp read`: one row with ECC, as it is, or by a vote, and whose row it is (document 01).
 ghost use Prim.Native.Nat.{_≤_};
 use crate::begin::begin;
+use crate::callers;
 use crate::condition;
 use crate::ended::Ended;
 use crate::entered_key;
@@ -50,11 +51,8 @@ fn title(caller: u32, row: u32, way: Way) {
     print::left(b"read", 12);
     print::row(row);
     way_words(way);
-    if caller == 0 {
-        print::line(b", by Secure");
-    } else {
-        print::line(b", by Non-secure");
-    }
+    callers::by(caller);
+    print::end();
 }
 
 fn condition_line(answer: Answer) {
@@ -149,7 +147,7 @@ fn show(rows: &[u32; 4096], state: State, caller: u32, row: u32, way: Way) -> En
     let about = refused_row(rows, state, caller, row, span(way), number);
     refusals::row(number, about);
     if number == 7 {
-        levels::line(state, caller, about, b", and a read needs both at most 1");
+        levels::of_read(state, caller, about);
     }
     title(caller, row, way);
     if number == 0 {
@@ -163,7 +161,7 @@ fn show(rows: &[u32; 4096], state: State, caller: u32, row: u32, way: Way) -> En
     Ended::Answered(number)
 }
 
-fn on_image(words: Words, row: u32, way: Way) -> Ended {
+fn on_image(words: Words, caller: u32, row: u32, way: Way) -> Ended {
     let mut rows = [0u32; 4096];
     let begun = begin(words, &mut rows);
     if !begun.ready {
@@ -171,26 +169,32 @@ fn on_image(words: Words, row: u32, way: Way) -> Ended {
         return ended;
     }
     let state = begun.state;
-    let caller = if words.nonsecure == 0 { 0 } else { 1 };
     let ended = show(&rows, state, caller, row, way);
     entered_key::line(words, state);
     ended
 }
 
 // The way that the options ask for.
-fn by_way(words: Words, row: u32) -> Ended {
+fn by_way(words: Words, caller: u32, row: u32) -> Ended {
     if words.vote == 0 {
         if words.raw == 0 {
-            return on_image(words, row, Way::Ecc);
+            return on_image(words, caller, row, Way::Ecc);
         }
-        return on_image(words, row, Way::Raw);
+        return on_image(words, caller, row, Way::Raw);
     }
     if words.raw != 0 {
         return usage::wrong(words.raw, b"a read is raw or a vote, not both");
     }
     match words::number(words.vote) {
-        Number::Is(count) => on_image(words, row, Way::Vote(count)),
+        Number::Is(count) => on_image(words, caller, row, Way::Vote(count)),
         Number::Not => usage::not_a_number(words.vote),
+    }
+}
+
+fn by_caller(words: Words, row: u32) -> Ended {
+    match callers::asked(words) {
+        Number::Is(caller) => by_way(words, caller, row),
+        Number::Not => Ended::Usage,
     }
 }
 
@@ -208,7 +212,7 @@ pub fn run() -> Ended {
         return Ended::Usage;
     }
     match words::number(words.second) {
-        Number::Is(row) => by_way(words, row),
+        Number::Is(row) => by_caller(words, row),
         Number::Not => usage::not_a_number(words.second),
     }
 }

@@ -104,6 +104,9 @@ fn stray_way(words: Words) -> usize {
     if words.vote != 0 {
         return before(words.vote);
     }
+    if words.caller != 0 {
+        return before(words.caller);
+    }
     if words.raw != 0 {
         return words.raw;
     }

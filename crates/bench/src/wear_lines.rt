@@ -5,6 +5,7 @@ use crate::range::Range;
 use crate::refusals;
 use access::reads::read_ecc;
 use access::rows::row_at;
+use chip::callers::SECURE;
 use chip::state::State;
 use row::answer::Answer;
 use row::answer::Condition;
@@ -122,7 +123,7 @@ fn lines(rows: &[u32], state: State, range: Range) -> Count {
     for row in first..past {
         let bits = row_at(rows, row);
         if bits != 0 || !range.held {
-            let answer = read_ecc(rows, state, 0, row);
+            let answer = read_ecc(rows, state, SECURE, row);
             let wear = wear_of(answer);
             line(row, bits, answer, wear);
             count = with(count, wear);

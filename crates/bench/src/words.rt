@@ -14,6 +14,7 @@ pub struct Words {
     pub vote: usize,
     pub raw: usize,
     pub nonsecure: usize,
+    pub caller: usize,
     // The option whose value comes next, as one of the numbers below.
     pub awaited: u32,
     // The first word that fits nowhere, and the first option that was given before.
@@ -29,6 +30,8 @@ const KEY: u32 = 1;
 const SAVE: u32 = 2;
 
 const VOTE: u32 = 3;
+
+const CALLER: u32 = 4;
 
 pub fn same(a: &[u8], b: &[u8]) -> bool {
     if a.len() != b.len() {
@@ -102,8 +105,11 @@ fn with_value(mut words: Words, place: usize) -> Words {
         SAVE => {
             words.save = place;
         }
-        _ => {
+        VOTE => {
             words.vote = place;
+        }
+        _ => {
+            words.caller = place;
         }
     }
     words
@@ -134,6 +140,9 @@ fn with_option(words: Words, place: usize) -> Words {
     }
     if is(place, b"--vote") {
         return awaiting(words, VOTE, words.vote, place);
+    }
+    if is(place, b"--as") {
+        return awaiting(words, CALLER, words.caller, place);
     }
     with_flag(words, place)
 }
@@ -185,6 +194,7 @@ pub fn taken() -> Words {
         vote: 0,
         raw: 0,
         nonsecure: 0,
+        caller: 0,
         awaited: NOTHING,
         wrong: 0,
         twice: 0,
