@@ -129,7 +129,7 @@ typedef struct {
     OTP_ALIGNAS(4)
     uint8_t secure[OTP_PAGES];     /* the lock level for Secure; above OTP_NO_ACCESS counts as that, in each of the three domains */
     uint8_t nonsecure[OTP_PAGES];  /* the lock level for Non-secure */
-    uint8_t bootloader[OTP_PAGES]; /* the lock level for the bootloader, as it was burnt: no call advances it */
+    uint8_t bootloader[OTP_PAGES]; /* the lock level for the bootloader, as it was burnt: no call advances it, and the chip does not enforce it */
     uint8_t writekey[OTP_PAGES];   /* the key that opens the page for writing: 0 none, 1 to 6 a key, 7 never matches; above 7 counts as 7 */
     uint8_t readkey[OTP_PAGES];    /* the key that opens the page for reading only, numbered as those for writing */
     bool nokey[OTP_PAGES];         /* where a key is registered and none matches: false is read only, true is no access */
