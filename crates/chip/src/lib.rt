@@ -1,4 +1,4 @@
-// The chip: its pages, the latched state, keys and permission (document 01, "Locks", "Keys", "Permission").
+// The chip: its pages, the callers, the latched state, keys and permission (document 01, "Locks", "Keys", "Permission").
 pub mod callers;
 pub mod keys;
 pub mod pages;

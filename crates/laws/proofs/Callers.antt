@@ -1,13 +1,13 @@
 -- The bootloader's rights lie within Secure's, no call but a reset changes its levels, and Secure and Non-secure have the rights that they had.
 -- Assumes nothing.
-use mathlib.Core.Bool.{Bool, true, false, _&&_, _||_, and-eq-true-iff}
+use mathlib.Core.Bool.{Bool, true, false, _&&_, _||_}
 use mathlib.Core.List.{[], _∷_}
 use mathlib.Core.Logic.{_⊎_, inl, inr}
 use mathlib.Core.Path.{_≡_, refl, sym, ap, _∙_}
 use Prim.Native.Nat.{ℕ, zero, suc, _≤_, max}
 use native.Mathlib.Nat.{le-trans, max-le, le-max-left, le-max-right}
 use native.Mathlib.Omega.{arith}
-use borrow.Author.Tests.{eq-eqb, eqb-true, le-ltb, le-leb, leb-true}
+use borrow.Author.Tests.{eq-eqb, le-ltb, le-leb, leb-true}
 use lib.Dec.{eqb, leb}
 use Rattle.row.specs.Rungs.{_when_, firstOf}
 use Rattle.chip.specs.Callers.{shownLevel}
@@ -17,6 +17,7 @@ use Rattle.chip.specs.declared.state.State.{State}
 use Rattle.latch.specs.Calls.{advanced}
 use Rattle.laws.specs.Callers.{BootloaderExactly, BootloaderWithinSecure, BootloaderLevelsStay, SevenToBootloader, ShownToAll, PermissionStays, NumbersStay}
 use Rattle.row.proofs.Choices.{both-ways}
+use Rattle.laws.proofs.Permits.{all-zero}
 use Rattle.laws.proofs.WithoutReset.{by-calls}
 
 -- ---- rows
@@ -42,13 +43,6 @@ module _ (state : State) (row : ℕ) where
       let higher : max own-level secure-level ≤ 1 = le-trans (le-max-left (max own-level secure-level) key-level) highest in
       (le-trans (le-max-left own-level secure-level) higher, le-trans (le-max-right own-level secure-level) higher, le-trans (le-max-right (max own-level secure-level) key-level) highest)
 
-  may-write : mayWrite state 2 row ≡ true → (own-level ≡ 0) × (secure-level ≡ 0) × (key-level ≡ 0)
-  unfolding mayWrite
-  may-write may =
-      let parts = and-eq-true-iff (eqb own-level 0 && eqb secure-level 0) (eqb key-level 0) .0 may in
-      let levels = and-eq-true-iff (eqb own-level 0) (eqb secure-level 0) .0 (parts .0) in
-      (eqb-true own-level 0 (levels .0), eqb-true secure-level 0 (levels .1), eqb-true key-level 0 (parts .1))
-
 pub bootloaderExactly : BootloaderExactly
 unfolding mayWrite
 bootloaderExactly state row = (
@@ -56,14 +50,14 @@ bootloaderExactly state row = (
     may-read state row no-lock,
     λ low. reads state row no-lock ∙ le-leb _ 1 (max-le (max-le (low .0) (low .1)) (low .2)),
   ),
-  (may-write state row, λ none. rw (none .0, none .1, none .2)),
+  (all-zero state 2 row, λ none. rw (none .0, none .1, none .2)),
 )
 
 pub bootloaderWithinSecure : BootloaderWithinSecure
 unfolding mayRead mayWrite
 bootloaderWithinSecure state row = (
   λ may. go (isLockRow row) refl may,
-  λ may. let none = may-write state row may in rw (none .1, none .2),
+  λ may. let none = all-zero state 2 row may in rw (none .1, none .2),
 )
   where
     go : (t : Bool) → isLockRow row ≡ t → mayRead state 2 row ≡ true → mayRead state 0 row ≡ true

@@ -42,9 +42,7 @@ fn must(place: usize) -> u8 {
 
 // A state with these levels at the page. An index that never matches makes the key level the no-key state plus 1.
 fn with_levels(key: u32, secure: u32, nonsecure: u32, bootloader: u32) -> State {
-    let locked = states::with_secure(State::zeros(), PAGE, secure);
-    let both = states::with_nonsecure(locked, PAGE, nonsecure);
-    let state = states::with_bootloader(both, PAGE, bootloader);
+    let state = states::with_levels(State::zeros(), PAGE, secure, nonsecure, bootloader);
     if key == 0 {
         return state;
     }

@@ -27,9 +27,13 @@ fn number_of(caller: u32, domain: u32) -> u32 {
 // The other domains have other levels, so that one taken for another shows.
 fn with_present(domain: u32, present: u32) -> State {
     let secure = (present % 3 + 3 - domain % 3) % 3;
-    let state = states::with_secure(State::zeros(), PAGE, secure);
-    let both = states::with_nonsecure(state, PAGE, (secure + 1) % 3);
-    states::with_bootloader(both, PAGE, (secure + 2) % 3)
+    states::with_levels(
+        State::zeros(),
+        PAGE,
+        secure,
+        (secure + 1) % 3,
+        (secure + 2) % 3,
+    )
 }
 
 // The state that an advance must leave.
@@ -37,10 +41,7 @@ fn left(state: State, domain: u32, present: u32, asked: u32, number: u32) -> Sta
     if number != 0 || asked <= present {
         return state;
     }
-    if domain == 0 {
-        return states::with_secure(state, PAGE, asked);
-    }
-    states::with_nonsecure(state, PAGE, asked)
+    states::with_level(state, domain, PAGE, asked)
 }
 
 fn advance_is_right(caller: u32, domain: u32, present: u32, asked: u32) -> bool {

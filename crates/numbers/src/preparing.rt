@@ -62,11 +62,9 @@ fn with_bytes(board: Board, said: Said) -> Board {
 // Where no line says the bootloader's level, it is 0.
 fn with_levels(board: Board, said: Said) -> Board {
     let hand = board.hand;
-    let page = said.first;
-    let secure = states::with_secure(hand, page, said.second);
-    let nonsecure = states::with_nonsecure(secure, page, said.third);
-    let level = said::or_zero(said.fourth);
-    board::with_hand(board, states::with_bootloader(nonsecure, page, level))
+    let bootloader = said::or_zero(said.fourth);
+    let levelled = states::with_levels(hand, said.first, said.second, said.third, bootloader);
+    board::with_hand(board, levelled)
 }
 
 fn with_indexes(board: Board, said: Said) -> Board {

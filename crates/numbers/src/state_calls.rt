@@ -21,14 +21,6 @@ pub fn reset(board: Board, rows: &[u32], said: Said) -> Board {
     changed(board, said, outcome, state, b"kept")
 }
 
-// The state with a level in a lock domain.
-fn raised(state: State, domain: u32, page: u32, level: u32) -> State {
-    if domain == 0 {
-        return states::with_secure(state, page, level);
-    }
-    states::with_nonsecure(state, page, level)
-}
-
 // Given the caller, the domain, the page and the level. Where the line says no level that is left,
 // the state must be exactly as it was.
 pub fn advance(board: Board, said: Said) -> Board {
@@ -39,7 +31,7 @@ pub fn advance(board: Board, said: Said) -> Board {
     if said.left == NONE {
         return changed(board, said, outcome, state, b"kept");
     }
-    let must = raised(state, domain, page, said.left);
+    let must = states::with_level(state, domain, page, said.left);
     changed(board, said, outcome, must, b"raised")
 }
 

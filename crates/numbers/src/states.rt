@@ -14,25 +14,41 @@ pub fn open() -> State {
     state
 }
 
-pub fn with_secure(state: State, page: u32, level: u32) -> State {
+fn with_secure(state: State, page: u32, level: u32) -> State {
     let mut next = state;
     let at = (page % 64) as usize;
     next.secure[at] = (level % 256) as u8;
     next
 }
 
-pub fn with_nonsecure(state: State, page: u32, level: u32) -> State {
+fn with_nonsecure(state: State, page: u32, level: u32) -> State {
     let mut next = state;
     let at = (page % 64) as usize;
     next.nonsecure[at] = (level % 256) as u8;
     next
 }
 
-pub fn with_bootloader(state: State, page: u32, level: u32) -> State {
+fn with_bootloader(state: State, page: u32, level: u32) -> State {
     let mut next = state;
     let at = (page % 64) as usize;
     next.bootloader[at] = (level % 256) as u8;
     next
+}
+
+// With a level in a lock domain.
+pub fn with_level(state: State, domain: u32, page: u32, level: u32) -> State {
+    match domain {
+        0 => with_secure(state, page, level),
+        1 => with_nonsecure(state, page, level),
+        _ => with_bootloader(state, page, level),
+    }
+}
+
+// With the three levels of a page.
+pub fn with_levels(state: State, page: u32, secure: u32, nonsecure: u32, bootloader: u32) -> State {
+    let locked = with_secure(state, page, secure);
+    let both = with_nonsecure(locked, page, nonsecure);
+    with_bootloader(both, page, bootloader)
 }
 
 pub fn with_indexes(state: State, page: u32, write: u32, read: u32, nokey: u32) -> State {
