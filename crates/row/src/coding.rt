@@ -98,6 +98,13 @@ pub fn code(value: u16) -> u32
     bits | (checks << 16)
 }
 
+// How many of a row's 24 bits are set.
+pub fn set_bits(row: u32) -> u32
+    ensures { λ r. ⌜ r ≡ spec.setBits row ⌝ }
+{
+    u32::count_ones(row % 16777216)
+}
+
 // All 24 bits of a row flipped.
 pub fn flipped(row: u32) -> u32
     ensures { λ r. ⌜ r ≡ spec.flipped row ⌝ }

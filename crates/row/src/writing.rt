@@ -4,6 +4,7 @@ ghost use Rattle.row.specs.Writing as spec;
 use crate::coding::flipped;
 use crate::coding::inverted;
 use crate::coding::plain;
+use crate::coding::set_bits;
 
 // The number of a write, the row that it leaves, and the pulses that it takes.
 pub struct Written {
@@ -23,7 +24,7 @@ fn fits(old: u32, row: u32) -> bool
 pub fn pulses(old: u32, row: u32) -> u32
     ensures { λ r. ⌜ r ≡ spec.pulses old row ⌝ }
 {
-    u32::count_ones((row & flipped(old)) % 16777216)
+    set_bits(row & flipped(old))
 }
 
 // A row burnt over an old one.
