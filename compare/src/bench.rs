@@ -1,9 +1,9 @@
 //! Makes each call on both sides and compares everything that comes back: the answer, the state, every row.
 
 use crate::call::{Call, Chip};
+use crate::counts::Counts;
 use crate::locks::{key_page, owner};
 use crate::shape::{Answer, State, ROWS};
-use crate::tally::Tally;
 
 /// The rows lie in a longer buffer, so that a slice can be too long and a stray write is seen.
 pub const BUFFER: usize = 4352;
@@ -18,7 +18,7 @@ pub struct Bench<'a> {
     theirs: Vec<u32>,
     ours: Vec<u32>,
     pub state: State,
-    pub tally: Tally,
+    pub counts: Counts,
 }
 
 impl<'a> Bench<'a> {
@@ -29,7 +29,7 @@ impl<'a> Bench<'a> {
             theirs: vec![0; BUFFER],
             ours: vec![0; BUFFER],
             state: State::blank(),
-            tally: Tally::default(),
+            counts: Counts::default(),
         }
     }
 
@@ -62,7 +62,7 @@ impl<'a> Bench<'a> {
         let setting = call.rows().map_or(String::new(), |(row, _)| self.setting(row));
         let theirs = self.library.make(call, &mut self.theirs[..length], self.state);
         let ours = self.model.make(call, &mut self.ours[..length], self.state);
-        self.tally.note(call.index(), theirs.answer.number);
+        self.counts.note(call.index(), theirs.answer.number);
         let found = theirs.differs(&ours).or_else(|| self.row_differs());
         if let Some(found) = found {
             return Err(self.report(call, length, &setting, &found));
@@ -101,7 +101,7 @@ impl<'a> Bench<'a> {
         } else {
             String::new()
         };
-        let calls = self.tally.calls;
+        let calls = self.counts.calls;
         Difference(format!("call {calls} differs: {call}{slice}{setting}: {found}"))
     }
 }

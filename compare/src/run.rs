@@ -18,8 +18,8 @@ const EPISODE: u64 = 160;
 /// Makes so many calls. The images and arguments depend on the seed alone, as long as nothing differs.
 pub fn run(bench: &mut Bench, codes: &Codes, sound: &dyn Chip, calls: u64, seed: u64) -> Result<(), Difference> {
     let mut random = Random::new(seed);
-    while bench.tally.calls < calls {
-        let room = calls - bench.tally.calls;
+    while bench.counts.calls < calls {
+        let room = calls - bench.counts.calls;
         if room >= sequences::MOST_CALLS && random.coin() {
             sequences::cut(&mut random, bench, codes)?;
         } else {
@@ -85,7 +85,7 @@ fn stir(random: &mut Random, bench: &mut Bench, image: &Image, codes: &Codes, na
     }
 }
 
-/// Draws a call; those that cost most come up least. A call that is missing here is one that the tally finds missing.
+/// Draws a call; those that cost most come up least. A call that is missing here is one that the counts find missing.
 fn draw(random: &mut Random, bench: &mut Bench, image: &Image, codes: &Codes, sound: &dyn Chip) -> Call {
     let caller = arguments::caller(random);
     let row = arguments::row(random, image);

@@ -83,12 +83,12 @@ fn compare(wish: &Wish, library: &Library, sound: &Model) -> Result<(), String> 
     let model = wish.fault.map_or(sound.clone(), Model::faulty);
     let mut bench = Bench::new(library, &model);
     let result = run(&mut bench, &sound.codes, sound, wish.calls, wish.seed);
-    bench.tally.print();
+    bench.counts.print();
     result.map_err(|Difference(line)| format!("seed {}: {line}", wish.seed))?;
-    if let Some((name, number)) = bench.tally.missing() {
-        return Err(format!("{name} never gave {number} in {} calls", bench.tally.calls));
+    if let Some((name, number)) = bench.counts.missing() {
+        return Err(format!("{name} never gave {number} in {} calls", bench.counts.calls));
     }
-    println!("{} calls compared, 0 differ", bench.tally.calls);
+    println!("{} calls compared, 0 differ", bench.counts.calls);
     Ok(())
 }
 
@@ -100,9 +100,9 @@ fn faults(wish: &Wish, library: &Library, sound: &Model) -> Result<(), String> {
         let mut bench = Bench::new(library, &model);
         let found = run(&mut bench, &sound.codes, sound, wish.calls, wish.seed).is_err();
         match found {
-            true => println!("{name:<20} found after {:>7} calls   {what}", bench.tally.calls),
+            true => println!("{name:<20} found after {:>7} calls   {what}", bench.counts.calls),
             false => {
-                println!("{name:<20} not found in {:>5} calls   {what}", bench.tally.calls);
+                println!("{name:<20} not found in {:>5} calls   {what}", bench.counts.calls);
                 missed.push(*name);
             }
         }
@@ -137,7 +137,7 @@ fn all_of(calls: &[Calls], wish: &Wish, library: &Library, sound: &Model) -> Res
     for each in calls {
         each(&mut bench).map_err(|Difference(line)| line)?;
     }
-    println!("{} calls compared, 0 differ", bench.tally.calls);
+    println!("{} calls compared, 0 differ", bench.counts.calls);
     Ok(())
 }
 
