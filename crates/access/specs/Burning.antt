@@ -1,11 +1,13 @@
--- What a call that burns leaves (document 01, "The numbers we answer with"). It is made nowhere else.
+-- What a call that burns leaves (document 01, "The numbers we answer with"; request 2026-07). It is made nowhere else.
 use Prim.Native.Nat.{ℕ}
-use mathlib.Core.List.{List}
+use mathlib.Core.List.{List, [], _∷_}
 use lib.Dec.{eqb}
 use lib.ListN.{set}
 use Rattle.row.specs.Answers.{refusedAt, spent}
 use Rattle.row.specs.Choice.{if_then_else_}
 use Rattle.row.specs.declared.writing.Written.{Written}
+use Rattle.chip.specs.States.{withTallies}
+use Rattle.chip.specs.Tallies.{Gain, _gains_, withGains}
 use Rattle.chip.specs.declared.state.State.{State}
 use Rattle.chip.specs.declared.state.Outcome.{Outcome}
 
@@ -14,9 +16,12 @@ pub record Left : Type 0 where
   pub outcome : Outcome
   pub rows : List ℕ
 
--- done: these rows, with a place and pulses; nothing latched changes
-abbrev pub burnt : State → List ℕ → ℕ → ℕ → Left
-burnt state rows place pulses = record { outcome = record { answer = spent place pulses; state = state }; rows = rows }
+-- done: these rows, with a place and pulses; nothing latched changes but the tallies, by the bits that each row gained
+abbrev pub burnt : State → List Gain → List ℕ → ℕ → ℕ → Left
+burnt state gained rows place pulses = record {
+  outcome = record { answer = spent place pulses; state = withTallies state (withGains (state .tallies) gained) };
+  rows = rows;
+}
 
 -- refused: each row and the state as they were
 abbrev pub kept : State → List ℕ → ℕ → ℕ → Left
@@ -25,5 +30,5 @@ kept state rows number place = record { outcome = record { answer = refusedAt nu
 -- a write of one row: number 0 burns it, any other is a refusal
 abbrev pub oneRow : ℕ → List ℕ → State → ℕ → Written → Left
 oneRow number rows state row written =
-    if eqb number 0 then burnt state (set rows row (written .row)) 0 (written .pulses)
+    if eqb number 0 then burnt state (row gains written .pulses ∷ []) (set rows row (written .row)) 0 (written .pulses)
     else kept state rows number 0

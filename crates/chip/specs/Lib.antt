@@ -2,6 +2,7 @@ pub mod Lists
 pub mod Slices
 pub mod Pages
 pub mod States
+pub mod Tallies
 pub mod Callers
 pub mod Keys
 pub mod Permission

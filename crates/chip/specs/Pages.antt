@@ -29,3 +29,7 @@ owner row =
 -- the page whose key settings a row goes by: the chip divides by 64 for lock rows too, so that theirs are page 62's or 63's (erratum E28)
 abbrev pub keyPage : ℕ → ℕ
 keyPage row = if ltb 4095 row then 64 else row / 64
+
+-- the page that a row is in, by its number: lock rows are in pages 62 and 63
+abbrev pub pageOf : ℕ → ℕ
+pageOf row = row / 64

@@ -37,6 +37,7 @@ zeros = record {
   nokey = replicate 64 false;
   keys = replicate 6 zeroKey;
   entered = replicate 8 0;
+  tallies = replicate 64 0;
 }
 
 -- the state with other Secure levels
@@ -50,6 +51,7 @@ withSecure s levels = record {
   nokey = s .nokey;
   keys = s .keys;
   entered = s .entered;
+  tallies = s .tallies;
 }
 
 -- the state with other Non-secure levels
@@ -63,6 +65,7 @@ withNonsecure s levels = record {
   nokey = s .nokey;
   keys = s .keys;
   entered = s .entered;
+  tallies = s .tallies;
 }
 
 -- the state with another key entered
@@ -76,6 +79,21 @@ withEntered s words = record {
   nokey = s .nokey;
   keys = s .keys;
   entered = words;
+  tallies = s .tallies;
+}
+
+-- the state with other tallies
+abbrev pub withTallies : State → List ℕ → State
+withTallies s tallies = record {
+  secure = s .secure;
+  nonsecure = s .nonsecure;
+  bootloader = s .bootloader;
+  writekey = s .writekey;
+  readkey = s .readkey;
+  nokey = s .nokey;
+  keys = s .keys;
+  entered = s .entered;
+  tallies = tallies;
 }
 
 -- a refusal leaves the state as it was

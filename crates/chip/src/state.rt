@@ -5,7 +5,7 @@ use crate::pages::Page;
 use row::answer::Answer;
 use row::answer::refused;
 
-// A level, a key index and a flag of each page; the words of a key.
+// A level, a key index, a flag and a tally of each page; the words of a key.
 pub type Levels = [u8; 64];
 
 pub type Indexes = [u8; 64];
@@ -13,6 +13,8 @@ pub type Indexes = [u8; 64];
 pub type Flags = [bool; 64];
 
 pub type Words = [u16; 8];
+
+pub type Tallies = [u16; 64];
 
 // A key as reset latched it: its words, its valid flag, and whether all its rows decoded.
 #[repr(C)]
@@ -22,7 +24,7 @@ pub struct Key {
     pub whole: bool,
 }
 
-// What the hardware latches at reset, for each page and each key, and the key that was entered since.
+// What the hardware latches at reset, for each page and each key, the key that was entered since, and each page's bits burnt, as they stand.
 #[repr(C)]
 pub struct State {
     pub secure: Levels,
@@ -33,6 +35,7 @@ pub struct State {
     pub nokey: Flags,
     pub keys: [Key; 6],
     pub entered: Words,
+    pub tallies: Tallies,
 }
 
 impl State {
@@ -54,6 +57,7 @@ impl State {
             nokey: [false; 64],
             keys: [key; 6],
             entered: [0; 8],
+            tallies: [0; 64],
         }
     }
 }

@@ -23,7 +23,7 @@ use Rattle.form.specs.Entries.{countOf, entriesFrom, entriesOf}
 use Rattle.form.specs.Faults.{headFault, faultOf, malformed, outOfOrder}
 use Rattle.form.specs.declared.entries.Entry.{Entry}
 use Rattle.form.specs.declared.faults.Fault.the-variants.{Sound}
-use Rattle.job.specs.Burning.{Progress, writtenOver, withEntry, allWritten, allPulses, rehearsed}
+use Rattle.job.specs.Burning.{Progress, writtenOver, withEntry, allWritten, allPulses, allGained, rehearsed}
 use Rattle.job.specs.Jobs.{carriedOut, runJob, rehearse}
 use Rattle.job.specs.Verdicts.{entryWritten, allRungs, verdictOf}
 use Rattle.form.proofs.Faulty.{no-fault, both-sound, head-count}
@@ -61,12 +61,12 @@ all-few (e ∷ others) rows =
 
 -- ---- enough pulses
 
-abbrev progress : List ℕ → ℕ → ℕ → Progress
-progress rows spent place = record { rows = rows; pulses = spent; place = place }
+-- all entries burnt, and so many standing
+abbrev pub finished : List ℕ → List Entry → ℕ → Progress
+finished rows es place = record { rows = allWritten rows es; gained = allGained rows es; pulses = allPulses rows es; place = place }
 
-pub enough : (es : List Entry) (rows : List ℕ) (limit : ℕ) → allPulses rows es ≤ limit
-    → rehearsed rows limit es ≡ progress (allWritten rows es) (allPulses rows es) (length es)
-unfolding rehearsed allWritten allPulses
+pub enough : (es : List Entry) (rows : List ℕ) (limit : ℕ) → allPulses rows es ≤ limit → rehearsed rows limit es ≡ finished rows es (length es)
+unfolding rehearsed allWritten allPulses allGained
 enough [] rows limit h = refl
 enough (e ∷ others) rows limit h =
     let u : ℕ = writtenOver rows e .pulses in
@@ -100,18 +100,16 @@ pub whole-job : (rows : List ℕ) (state : State) (job : List ℕ) → rehearse 
 unfolding rehearse runJob
 whole-job rows state job = go (eqb (verdictOf rows state job .number) 0) refl
   where
-    finished : verdictOf rows state job .number ≡ 0
-        → rehearsed rows 12288 (entriesOf job) ≡ progress (allWritten rows (entriesOf job)) (allPulses rows (entriesOf job)) (countOf job)
-    finished e =
+    burnt-whole : verdictOf rows state job .number ≡ 0 → rehearsed rows 12288 (entriesOf job) ≡ finished rows (entriesOf job) (countOf job)
+    burnt-whole e =
         let few : countOf job ≤ 512 = count-few job (accepted rows state job e .1) in
         let long : length (entriesOf job) ≡ countOf job = length-entries job 0 (countOf job) in
         let bound : allPulses rows (entriesOf job) ≤ 24 * length (entriesOf job) = all-few (entriesOf job) rows in
         enough (entriesOf job) rows 12288 (omega arith)
-        ∙ ap (progress (allWritten rows (entriesOf job)) (allPulses rows (entriesOf job))) long
+        ∙ ap (finished rows (entriesOf job)) long
 
     go : (t : Bool) → eqb (verdictOf rows state job .number) 0 ≡ t
         → carriedOut (verdictOf rows state job) rows state (rehearsed rows 12288 (entriesOf job))
-        ≡ carriedOut (verdictOf rows state job) rows state
-        (progress (allWritten rows (entriesOf job)) (allPulses rows (entriesOf job)) (countOf job))
-    go true e = ap (carriedOut (verdictOf rows state job) rows state) (finished (eqb-true _ 0 e))
+        ≡ carriedOut (verdictOf rows state job) rows state (finished rows (entriesOf job) (countOf job))
+    go true e = ap (carriedOut (verdictOf rows state job) rows state) (burnt-whole (eqb-true _ 0 e))
     go false e = rw e

@@ -1,4 +1,4 @@
--- What a job and a rehearsal burn (document 01, "Jobs").
+-- What a job and a rehearsal burn (document 01, "Jobs"; request 2026-07).
 use Prim.Native.Nat.{ℕ, _+_, _-_}
 use mathlib.Core.List.{List, [], _∷_}
 use lib.Dec.{leb}
@@ -7,6 +7,7 @@ use Rattle.row.specs.Choice.{if_then_else_}
 use Rattle.row.specs.Upward.{burntUpward}
 use Rattle.row.specs.declared.writing.Written.{Written}
 use Rattle.chip.specs.Slices.{rowAt}
+use Rattle.chip.specs.Tallies.{Gain, _gains_}
 use Rattle.form.specs.declared.entries.Entry.{Entry}
 use Rattle.job.specs.Verdicts.{entryWritten}
 
@@ -28,24 +29,36 @@ unfoldable pub allPulses : List ℕ → List Entry → ℕ
 allPulses rows [] = 0
 allPulses rows (e ∷ others) = writtenOver rows e .pulses + allPulses (withEntry rows e) others
 
--- how far a rehearsal came: its rows, the pulses spent, the leading entries whose bits all stand
+-- the bits that each entry's row gains by that
+unfoldable pub allGained : List ℕ → List Entry → List Gain
+allGained rows [] = []
+allGained rows (e ∷ others) = e .row gains writtenOver rows e .pulses ∷ allGained (withEntry rows e) others
+
+-- where the pulses end: the row of the first entry left gains the last bits, and the rows of the others none
+unfoldable pub cutGained : ℕ → List Entry → List Gain
+cutGained bits [] = []
+cutGained bits (e ∷ others) = e .row gains bits ∷ cutGained 0 others
+
+-- how far a rehearsal came: its rows, the bits that each entry's row gained, the pulses spent, the leading entries whose bits all stand
 pub record Progress : Type 0 where
   pub rows : List ℕ
+  pub gained : List Gain
   pub pulses : ℕ
   pub place : ℕ
 
--- one entry more stands, for so many pulses more
-abbrev pub after : ℕ → Progress → Progress
-after spent p = record { rows = p .rows; pulses = spent + p .pulses; place = 1 + p .place }
+-- one entry more stands, for as many pulses as its row gained bits
+abbrev pub after : Gain → Progress → Progress
+after gain p = record { rows = p .rows; gained = gain ∷ p .gained; pulses = gain .bits + p .pulses; place = 1 + p .place }
 
 -- entries burnt in order until the pulses of the limit are spent
 unfoldable pub rehearsed : List ℕ → ℕ → List Entry → Progress
-rehearsed rows limit [] = record { rows = rows; pulses = 0; place = 0 }
+rehearsed rows limit [] = record { rows = rows; gained = []; pulses = 0; place = 0 }
 rehearsed rows limit (e ∷ others) =
     if leb (writtenOver rows e .pulses) limit
-    then after (writtenOver rows e .pulses) (rehearsed (withEntry rows e) (limit - writtenOver rows e .pulses) others)
+    then after (e .row gains writtenOver rows e .pulses) (rehearsed (withEntry rows e) (limit - writtenOver rows e .pulses) others)
     else record {
       rows = set rows (e .row) (burntUpward limit (rowAt rows (e .row)) (writtenOver rows e .row));
+      gained = cutGained limit (e ∷ others);
       pulses = limit;
       place = 0;
     }

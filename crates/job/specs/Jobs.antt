@@ -6,14 +6,14 @@ use Rattle.row.specs.Choice.{if_then_else_}
 use Rattle.chip.specs.declared.state.State.{State}
 use Rattle.access.specs.Burning.{Left, burnt, kept}
 use Rattle.form.specs.Entries.{countOf, entriesOf}
-use Rattle.job.specs.Burning.{Progress, allWritten, allPulses, rehearsed}
+use Rattle.job.specs.Burning.{Progress, allWritten, allPulses, allGained, rehearsed}
 use Rattle.job.specs.Verdicts.{verdictOf}
 use Rattle.job.specs.declared.verdicts.Verdict.{Verdict}
 
 -- number 0: its rows are burnt; any other is a refusal, with its place
 abbrev pub carriedOut : Verdict → List ℕ → State → Progress → Left
 carriedOut judged rows state done =
-    if eqb (judged .number) 0 then burnt state (done .rows) (done .place) (done .pulses)
+    if eqb (judged .number) 0 then burnt state (done .gained) (done .rows) (done .place) (done .pulses)
     else kept state rows (judged .number) (judged .place)
 
 -- run a job: each entry is written in turn, and in the end all of them stand
@@ -21,6 +21,7 @@ unfoldable pub runJob : List ℕ → State → List ℕ → Left
 runJob rows state job =
     carriedOut (verdictOf rows state job) rows state (record {
       rows = allWritten rows (entriesOf job);
+      gained = allGained rows (entriesOf job);
       pulses = allPulses rows (entriesOf job);
       place = countOf job;
     })

@@ -1,10 +1,13 @@
 // Burning entries in order, up to a limit of pulses (document 01, "Jobs").
 ghost use mathlib.Core.Path.{_≡_};
+ghost use Prim.Native.Nat.{_-_};
+ghost use Rattle.chip.specs.Tallies.{withGains};
 ghost use Rattle.form.specs.Entries.{entriesFrom};
 ghost use Rattle.job.specs.Burning as spec;
 use crate::verdicts::entry_written;
 use access::rows::put;
 use access::rows::row_at;
+use chip::tallies::gain;
 use form::entries::entry_at;
 use row::upward::burnt_upward;
 
@@ -14,12 +17,34 @@ pub struct Reached {
     pub place: u32,
 }
 
-// Burns the first `count` entries in order until the pulses of the limit are spent.
-pub fn rehearsed(rows: &mut [u32], job: &[u8], count: u32, limit: u32) -> Reached
+// Counts where the pulses end: the row of the entry at `first` gains the last bits. Those after it, up to `count`, gain none, and their
+// pages are named all the same.
+fn cut_gained(tallies: &mut [u16], job: &[u8], first: u32, count: u32, bits: u32)
+    ensures { λ _. ⌜
+        now (tallies .exit) ≡ withGains (now (tallies .entry)) (spec.cutGained bits (entriesFrom (now (job .entry)) first (count - first)))
+        ⌝ }
+{
+    let mut gained = bits;
+    let mut i = first;
+    while i < count {
+        gain(tallies, entry_at(job, i).row, gained);
+        gained = 0;
+        i += 1;
+    }
+}
+
+// Burns the first `count` entries in order until the pulses of the limit are spent, and counts the new bits of each.
+pub fn rehearsed(
+    rows: &mut [u32],
+    tallies: &mut [u16],
+    job: &[u8],
+    count: u32,
+    limit: u32,
+) -> Reached
     ensures { λ r. ⌜
-        (now (rows .exit) ≡ spec.rehearsed (now (rows .entry)) limit (entriesFrom (now (job .entry)) 0 count) .rows)
-        × (r .pulses ≡ spec.rehearsed (now (rows .entry)) limit (entriesFrom (now (job .entry)) 0 count) .pulses)
-        × (r .place ≡ spec.rehearsed (now (rows .entry)) limit (entriesFrom (now (job .entry)) 0 count) .place)
+        (let reached = spec.rehearsed (now (rows .entry)) limit (entriesFrom (now (job .entry)) 0 count) in
+        (now (rows .exit) ≡ reached .rows) × (now (tallies .exit) ≡ withGains (now (tallies .entry)) (reached .gained))
+        × (r .pulses ≡ reached .pulses) × (r .place ≡ reached .place))
         ⌝ }
 {
     let mut unspent = limit;
@@ -32,12 +57,14 @@ pub fn rehearsed(rows: &mut [u32], job: &[u8], count: u32, limit: u32) -> Reache
         let pulses = written.pulses;
         if unspent < pulses {
             put(rows, row, burnt_upward(unspent, old, written.row));
+            cut_gained(tallies, job, i, count, unspent);
             return Reached {
                 pulses: limit,
                 place: i,
             };
         }
         put(rows, row, written.row);
+        gain(tallies, row, pulses);
         unspent -= pulses;
         i += 1;
     }

@@ -26,9 +26,15 @@ pub fn rehearse(rows: &mut [u32], state: State, job: &[u8], limit: u32) -> Outco
         let answer = refused_at(number, verdict.place);
         return Outcome { answer, state };
     }
-    let reached = rehearsed(rows, job, count_of(job), limit);
+    let mut tallies = state.tallies;
+    let reached = rehearsed(rows, &mut tallies, job, count_of(job), limit);
     let answer = spent(reached.place, reached.pulses);
-    Outcome { answer, state }
+    let mut next = state;
+    next.tallies = tallies;
+    Outcome {
+        answer,
+        state: next,
+    }
 }
 
 // Judges a job and burns it.

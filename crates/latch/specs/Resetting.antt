@@ -1,4 +1,4 @@
--- Reset, and what it latches of the rows (document 01, "Locks" and "Keys").
+-- Reset, and what it latches of the rows (document 01, "Locks" and "Keys"; request 2026-07).
 use Prim.Native.Nat.{ℕ, zero, suc, _+_, _%_}
 use mathlib.Core.Bool.{Bool, true, not, _&&_}
 use mathlib.Core.List.{List, [], _∷_}
@@ -11,6 +11,7 @@ use Rattle.chip.specs.Lists.{listed}
 use Rattle.chip.specs.Pages.{lowLockRow, highLockRow}
 use Rattle.chip.specs.Slices.{rowAt, notWhole}
 use Rattle.chip.specs.States.{outcome}
+use Rattle.chip.specs.Tallies.{talliesOf}
 use Rattle.chip.specs.declared.state.Key.{Key}
 use Rattle.chip.specs.declared.state.State.{State}
 use Rattle.chip.specs.declared.state.Outcome.{Outcome}
@@ -38,7 +39,7 @@ latchedKey rows k = record {
   whole = allDecode rows (keyRow k) 8;
 }
 
--- reset latches levels, key indexes, no-key states, keys and valid flags, and clears the entered key
+-- reset latches levels, key indexes, no-key states, keys and valid flags, clears the entered key, and fills the tallies
 unfoldable pub latched : List ℕ → State
 latched rows = record {
   secure = listed 64 (λ page. levelOf (secureField (rowAt rows (highLockRow page))));
@@ -49,6 +50,7 @@ latched rows = record {
   nokey = listed 64 (λ page. noKeyField (rowAt rows (lowLockRow page)));
   keys = listed 6 (λ i. latchedKey rows (i + 1));
   entered = noKey;
+  tallies = talliesOf rows;
 }
 
 -- reset reads every row

@@ -1,10 +1,11 @@
-// Reset, and what it latches of the rows (document 01, "Locks" and "Keys").
+// Reset, and what it latches of the rows (document 01, "Locks" and "Keys"; request 2026-07).
 ghost use mathlib.Core.Path.{_≡_};
 ghost use Prim.Native.Nat.{_+_, _≤_};
 ghost use lib.ListN.{length};
 ghost use Rattle.chip.specs.Lists.{listed};
-ghost use Rattle.chip.specs.Pages.{lowLockRow, highLockRow};
+ghost use Rattle.chip.specs.Pages.{firstRow, lowLockRow, highLockRow};
 ghost use Rattle.chip.specs.Slices.{rowAt};
+ghost use Rattle.chip.specs.Tallies.{pageRows, bitsOf, talliesOf};
 ghost use Rattle.latch.specs.Locks.{levelOf, secureField, nonsecureField, bootloaderField, writeKeyField, readKeyField, noKeyField};
 ghost use Rattle.latch.specs.Resetting as spec;
 use crate::locks::level_of;
@@ -16,8 +17,10 @@ use chip::state::Key;
 use chip::state::Levels;
 use chip::state::Outcome;
 use chip::state::State;
+use chip::state::Tallies;
 use chip::state::refusal;
 use row::answer::done;
+use row::coding::set_bits;
 use row::reading::read_row;
 
 // Whether no entry is above 16,777,215.
@@ -163,7 +166,36 @@ fn six_keys(rows: &[u32]) -> [Key; 6]
     keys
 }
 
-// All that reset latches. The entered key is cleared.
+// The set bits of a page's rows.
+fn page_bits(rows: &[u32], page: Page) -> u16
+    requires { ⌜ firstRow (page .number) + 64 ≤ length (now rows) ⌝ }
+    ensures { λ r. ⌜ r ≡ bitsOf (pageRows (now (rows .entry)) (page .number)) ⌝ }
+{
+    let first = page.first_row() as usize;
+    let mut bits: u32 = 0;
+    let mut i: usize = 0;
+    while i < Page::ROWS as usize {
+        bits += set_bits(rows[first + i]);
+        i += 1;
+    }
+    bits as u16
+}
+
+// The set bits of each page's rows.
+fn tallies_of(rows: &[u32]) -> Tallies
+    requires { ⌜ length (now rows) ≡ 4096 ⌝ }
+    ensures { λ r. ⌜ r ≡ talliesOf (now (rows .entry)) ⌝ }
+{
+    let mut tallies = [0u16; 64];
+    let mut at: usize = 0;
+    while at < Page::COUNT {
+        tallies[at] = page_bits(rows, Page { number: at as u8 });
+        at += 1;
+    }
+    tallies
+}
+
+// All that reset latches. The entered key is cleared, and the tallies are filled.
 fn latched(rows: &[u32]) -> State
     requires { ⌜ length (now rows) ≡ 4096 ⌝ }
     ensures { λ r. ⌜ r ≡ spec.latched (now (rows .entry)) ⌝ }
@@ -176,6 +208,7 @@ fn latched(rows: &[u32]) -> State
     let readkey = locks.readkey;
     let nokey = locks.nokey;
     let keys = six_keys(rows);
+    let tallies = tallies_of(rows);
     State {
         secure,
         nonsecure,
@@ -185,6 +218,7 @@ fn latched(rows: &[u32]) -> State
         nokey,
         keys,
         entered: [0; 8],
+        tallies,
     }
 }
 

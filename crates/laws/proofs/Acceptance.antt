@@ -18,13 +18,13 @@ use Rattle.form.specs.Entries.{countOf, entryAt, entriesFrom, entriesOf}
 use Rattle.form.specs.Faults.{faultNumber, orderFault, orderFaults, faultOf}
 use Rattle.form.specs.declared.entries.Entry.{Entry}
 use Rattle.form.specs.declared.faults.Fault.the-variants.{Sound}
-use Rattle.job.specs.Burning.{Progress, allWritten, allPulses}
+use Rattle.job.specs.Burning.{Progress, allWritten, allPulses, allGained}
 use Rattle.job.specs.Jobs.{carriedOut, runJob}
 use Rattle.job.specs.Verdicts.{entryRungs, allRungs, verdictOf}
 use Rattle.job.specs.declared.verdicts.Verdict.{Verdict}
 use Rattle.form.proofs.Faulty.{both-sound, order-kept, order-sound}
 use Rattle.job.proofs.Upward.{entry-next, entry-none}
-use Rattle.job.proofs.Whole.{accepted}
+use Rattle.job.proofs.Whole.{finished, accepted}
 use Rattle.laws.specs.Cuts.{Keyed, ready, Bytes, acceptedOn}
 use Rattle.laws.proofs.Latches.{reset-passed}
 use Rattle.laws.proofs.Rewriting.{Admitted}
@@ -70,19 +70,19 @@ module _ (verdict : Verdict) (rows : List ℕ) (state : State) (done : Progress)
 
   pub carried : verdict .number ≡ 0
       → carriedOut verdict rows state done
-      ≡ burnt state (done .rows) (done .place) (done .pulses)
+      ≡ burnt state (done .gained) (done .rows) (done .place) (done .pulses)
   carried none = rw (eq-eqb (verdict .number) 0 none)
 
 module _ (rows : List ℕ) (state : State) (job : List ℕ) where
   pub ran-number : runJob rows state job .outcome .answer .number ≡ 0 → verdictOf rows state job .number ≡ 0
   unfolding runJob
-  ran-number = carried-number (verdictOf rows state job) rows state _
+  ran-number = carried-number (verdictOf rows state job) rows state (finished rows (entriesOf job) (countOf job))
 
   pub ran : verdictOf rows state job .number ≡ 0
       → runJob rows state job
-      ≡ burnt state (allWritten rows (entriesOf job)) (countOf job) (allPulses rows (entriesOf job))
+      ≡ burnt state (allGained rows (entriesOf job)) (allWritten rows (entriesOf job)) (countOf job) (allPulses rows (entriesOf job))
   unfolding runJob
-  ran = carried (verdictOf rows state job) rows state _
+  ran = carried (verdictOf rows state job) rows state (finished rows (entriesOf job) (countOf job))
 
 -- ---- on a chip just reset
 

@@ -6,6 +6,7 @@ use Prim.Native.Nat.{ℕ, _+_}
 use Rattle.chip.specs.Keys.{matches, keyLevel}
 use Rattle.chip.specs.Pages.{keyPage}
 use Rattle.chip.specs.Permission.{mayWrite}
+use Rattle.chip.specs.States.{withTallies}
 use Rattle.chip.specs.declared.state.State.{State}
 use Rattle.form.specs.Entries.{entriesOf}
 use Rattle.form.specs.declared.entries.Entry.{Entry}
@@ -33,6 +34,20 @@ same-level s page = rw (s .writekey, s .readkey, s .nokey, s .keys, s .entered)
 pub locks-agree : {a b : State} → SameLocks a b → (caller : ℕ) → AgreeToWrite caller a b
 unfolding mayWrite
 locks-agree s caller row = rw (same-level s (keyPage row), s .secure, s .nonsecure, s .bootloader)
+
+-- permission goes by no tally
+pub tallies-agree : (state : State) (tallies : List ℕ) (caller : ℕ) → AgreeToWrite caller (withTallies state tallies) state
+tallies-agree state tallies =
+    locks-agree record {
+      secure = refl;
+      nonsecure = refl;
+      bootloader = refl;
+      writekey = refl;
+      readkey = refl;
+      nokey = refl;
+      keys = refl;
+      entered = refl;
+    }
 
 module _ (rows : List ℕ) (a b : State) (agree : AgreeToWrite 0 a b) where
   same-rungs : (i : ℕ) (es : List Entry) → allRungs rows a i es ≡ allRungs rows b i es

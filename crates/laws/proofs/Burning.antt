@@ -1,10 +1,11 @@
--- Burning: no call clears a bit of a row, and none that burns changes what is latched.
+-- Burning: no call clears a bit of a row, and none that burns changes anything of the state but the tallies.
 -- Assumes nothing.
 use mathlib.Core.List.{List, [], _∷_}
 use mathlib.Core.Path.{_≡_, refl, subst}
 use Prim.Native.Nat.{ℕ, _-_}
 use lib.Dec.{eqb, leb}
 use Rattle.chip.specs.Slices.{rowAt}
+use Rattle.chip.specs.States.{withTallies}
 use Rattle.chip.specs.declared.state.State.{State}
 use Rattle.access.specs.Burning.{Left}
 use Rattle.access.specs.Writes.{writeRawNumber, writeEccNumber, writeRaw, writeEcc}
@@ -37,9 +38,9 @@ rehearsed-in (e ∷ others) rows limit =
 -- ---- calls
 
 module _ (rows : List ℕ) (state : State) where
-  -- what a call that burns leaves: no bit cleared, and the state as it was
+  -- what a call that burns leaves: no bit cleared, and the state with other tallies at most
   abbrev Burnt : Left → Type 0
-  Burnt l = EachIn rows (l .rows) × (l .outcome .state ≡ state)
+  Burnt l = EachIn rows (l .rows) × (l .outcome .state ≡ withTallies state (l .outcome .state .tallies))
 
   rehearsal-burns : (job : List ℕ) (limit : ℕ) → Burnt (rehearse rows state job limit)
   unfolding rehearse

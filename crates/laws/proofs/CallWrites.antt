@@ -16,7 +16,7 @@ use Rattle.row.specs.Writing.{eccWritten, rawWritten, neitherFits}
 use Rattle.row.specs.declared.answer.Answer.{Answer}
 use Rattle.row.specs.declared.writing.Written.{Written}
 use Rattle.chip.specs.Callers.{noCaller}
-use Rattle.chip.specs.Keys.{hidden}
+use Rattle.chip.specs.Keys.{matches, keyLevel, hidden}
 use Rattle.chip.specs.Slices.{rowAt, notWhole, tooLarge}
 use Rattle.chip.specs.Pages.{isLockRow}
 use Rattle.chip.specs.Permission.{mayRead, mayWrite}
@@ -134,11 +134,13 @@ writeReadsBack rows state writer reader row value done readable =
     rw (eq-eqb _ 0 readable, left .1, getD-set-same rows row (eccWritten old value .row) 0 (used .0))
     (readsBack old value (used .1) (by-row .1))
 
--- a write leaves the state that came in
-state-kept : (rows : List ℕ) (state : State) (caller row value : ℕ) → writeEcc rows state caller row value .outcome .state ≡ state
-unfolding writeEcc
-state-kept rows state caller row value =
-    both-ways (λ (left : Left). left .outcome .state ≡ state) (eqb (writeEccNumber rows state caller row value) 0) _ _ refl refl
+-- a read goes by no tally, and a write leaves the rest of the state that came in
+read-left : (rows left : List ℕ) (state : State) (caller row value : ℕ)
+    → readEcc left (writeEcc rows state caller row value .outcome .state) caller row ≡ readEcc left state caller row
+unfolding writeEcc readEcc callRungs rowRungs hidden mayRead keyLevel matches
+read-left rows left state caller row value =
+    both-ways (λ (l : Left). readEcc left (l .outcome .state) caller row ≡ readEcc left state caller row)
+    (eqb (writeEccNumber rows state caller row value) 0) _ _ refl refl
 
 pub writerReadsBack : WriterReadsBack
 unfolding writeEcc callRungs rowRungs refusing
@@ -159,5 +161,4 @@ writerReadsBack rows state writer row value done =
     then-rungs (callRungs (set rows row new) state writer row ecc noValue (mayRead state writer row)) (8 when undecodable (rowAt (set rows row new) row) ∷ []) tt
     ∙ ap (λ (n : ℕ). orElse n (firstOf (8 when undecodable (rowAt (set rows row new) row) ∷ []))) first
     ∙ rw (there, ap (λ (a : Answer). a .number) reads) in
-    rw (state-kept rows state writer row value)
-    (writeReadsBack rows state writer writer row value done (rw (left .1) number))
+    read-left rows _ state writer row value ∙ writeReadsBack rows state writer writer row value done (rw (left .1) number)

@@ -77,7 +77,9 @@ advanced-keeps state domain page level =
     (both-ways (SameBootloader state) (eqb domain 0) _ _ refl (both-ways (SameBootloader state) (eqb domain 1) _ _ refl refl))
 
 pub bootloaderLevelsStay : BootloaderLevelsStay
-bootloaderLevelsStay = by-calls SameBootloader (λ state. refl) (λ a b c first second. second ∙ first) advanced-keeps (λ state words. refl)
+bootloaderLevelsStay =
+    by-calls SameBootloader (λ state. refl) (λ a b c first second. second ∙ first)
+    advanced-keeps (λ state words. refl) (λ state tallies. refl)
 
 pub sevenToBootloader : SevenToBootloader
 sevenToBootloader = (

@@ -29,3 +29,8 @@ pub mod Pulses
 pub mod Places
 pub mod Standing
 pub mod Turns
+pub mod PageRows
+pub mod Gains
+pub mod Counted
+pub mod Naming
+pub mod Tallies

@@ -176,4 +176,4 @@ pub noLockFalls : NoLockFalls
 noLockFalls chip calls domain page no-reset =
     by-calls NoneFalls none-falls
     (λ a b c first second domain page. le-trans (first domain page) (second domain page))
-    advanced-raises (λ state words. none-falls state) chip calls no-reset domain page
+    advanced-raises (λ state words. none-falls state) (λ state tallies. none-falls state) chip calls no-reset domain page

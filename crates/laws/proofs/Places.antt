@@ -4,7 +4,7 @@ use mathlib.Core.Bool.{Bool, true, false, not, and-eq-true-iff}
 use mathlib.Core.List.{List}
 use mathlib.Core.Logic.{_⊎_, inl, inr}
 use mathlib.Core.Path.{_≡_, refl, sym, ap, _∙_, subst}
-use Prim.Native.Nat.{ℕ, zero, suc, _+_, _-_, _≤_, _<_}
+use Prim.Native.Nat.{ℕ, zero, suc, _+_, _≤_, _<_}
 use native.Mathlib.Nat.{mod-lt}
 use native.Mathlib.Numerals.{add-one}
 use native.Mathlib.Omega.{arith}
@@ -20,14 +20,15 @@ use Rattle.row.proofs.Ladders.{nine}
 use Rattle.chip.specs.Permission.{mayWrite}
 use Rattle.chip.specs.Slices.{rowAt, notWhole, tooLarge}
 use Rattle.chip.specs.declared.state.State.{State}
-use Rattle.form.specs.Entries.{countOf, entryAt, entriesFrom}
+use Rattle.form.specs.Entries.{countOf, entryAt, entriesFrom, entriesOf}
 use Rattle.form.specs.Faults.{malformed, outOfOrder}
 use Rattle.form.specs.declared.entries.Entry.{Entry}
-use Rattle.job.specs.Burning.{Progress}
+use Rattle.job.specs.Burning.{Progress, rehearsed}
 use Rattle.job.specs.Jobs.{carriedOut, runJob, rehearse}
 use Rattle.job.specs.Verdicts.{unfit, entryRungs, allRungs, verdict, verdictOf}
 use Rattle.job.specs.declared.verdicts.Verdict.{Verdict}
 use Rattle.job.proofs.Upward.{entry-stops, entry-next}
+use Rattle.job.proofs.Whole.{finished}
 use Rattle.laws.specs.Calls.{perform}
 use Rattle.laws.specs.Jobs.{RunsJob, NamesEntry, PlaceRefused, OneBitNeverNineInJobs}
 use Rattle.laws.proofs.Writes.{oneBitFits}
@@ -136,10 +137,12 @@ refused-answer judged rows state done some = go (eqb (judged .number) 0) refl
 pub placeRefused : PlaceRefused
 unfolding perform runJob rehearse
 placeRefused chip job _ RunsJob.run some =
-    let answer = refused-answer (verdictOf (chip .rows) (chip .state) job) (chip .rows) (chip .state) _ some in
+    let answer =
+    refused-answer (verdictOf (chip .rows) (chip .state) job) (chip .rows) (chip .state) (finished (chip .rows) (entriesOf job) (countOf job)) some in
     rw (answer .0, answer .1) (verdict-named (chip .rows) (chip .state) job (answer .2))
 placeRefused chip job _ (RunsJob.rehearsal {limit}) some =
-    let answer = refused-answer (verdictOf (chip .rows) (chip .state) job) (chip .rows) (chip .state) _ some in
+    let answer =
+    refused-answer (verdictOf (chip .rows) (chip .state) job) (chip .rows) (chip .state) (rehearsed (chip .rows) limit (entriesOf job)) some in
     rw (answer .0, answer .1) (verdict-named (chip .rows) (chip .state) job (answer .2))
 
 -- ---- 9 of an entry

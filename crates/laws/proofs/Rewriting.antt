@@ -19,6 +19,7 @@ use Rattle.job.specs.Verdicts.{entryRungs}
 use Rattle.job.proofs.Fitting.{entry-nine}
 use Rattle.laws.specs.Votes.{EachIn}
 use Rattle.laws.specs.Cuts.{newlySet}
+use Rattle.laws.proofs.Agreement.{AgreeToWrite}
 use Rattle.laws.proofs.Writes.{inItself}
 use Rattle.laws.proofs.Between.{in-le, each-self, each-through, each-both, each-at, each-set, each-over, each-under, new-through, new-none, new-set}
 use Rattle.laws.proofs.Rising.{Rising}
@@ -59,6 +60,15 @@ admitted-agrees Admitted.none same = Admitted.none
 admitted-agrees {left} {state} (Admitted.more {e} low high small done rest) same =
     let still : entryNumber left state e ≡ 0 = rw (same (e .row) low) done in
     Admitted.more low high small still (admitted-agrees rest (λ k l. same k (omega arith)))
+
+-- and of the state only what Secure may write
+pub admitted-alike : {rows : List ℕ} {state other : State} {least : ℕ} {es : List Entry} → AgreeToWrite 0 other state
+    → Admitted rows state least es → Admitted rows other least es
+unfolding entryRungs
+admitted-alike agree Admitted.none = Admitted.none
+admitted-alike {rows} {other = other} agree (Admitted.more {e} low high small done rest) =
+    let still : entryNumber rows other e ≡ 0 = rw (agree (e .row)) done in
+    Admitted.more low high small still (admitted-alike agree rest)
 
 -- one row burnt leaves those above it
 pub admitted-next : {rows : List ℕ} {state : State} {others : List Entry} (at new : ℕ) → Admitted rows state (at + 1) others

@@ -19,6 +19,8 @@ use Rattle.row.proofs.Ladders.{refusing, then-rungs, nine}
 use Rattle.chip.specs.Keys.{hidden}
 use Rattle.chip.specs.Permission.{mayWrite}
 use Rattle.chip.specs.Slices.{rowAt}
+use Rattle.chip.specs.States.{withTallies}
+use Rattle.chip.specs.Tallies.{Gain, _gains_, withGains}
 use Rattle.chip.specs.declared.state.State.{State}
 use Rattle.access.specs.Judging.{raw, ecc, rowRungs, callRungs}
 use Rattle.access.specs.Writes.{writeRawNumber, writeEccNumber, writeRaw, writeEcc}
@@ -26,18 +28,23 @@ use Rattle.form.specs.Entries.{entriesOf}
 use Rattle.form.specs.Faults.{formFault, formFaults}
 use Rattle.form.specs.declared.entries.Entry.{Entry}
 use Rattle.form.specs.declared.faults.Fault.the-variants.{Sound}
-use Rattle.job.specs.Burning.{writtenOver, withEntry, allWritten, allPulses}
+use Rattle.job.specs.Burning.{writtenOver, withEntry, allWritten, allPulses, allGained}
 use Rattle.job.specs.Verdicts.{entryWritten}
 use Rattle.form.proofs.Faulty.{both-sound, forms-sound, form-kept}
 use Rattle.laws.specs.Calls.{Chip, Result, aRawWrite, anEccWrite, perform}
 use Rattle.laws.specs.Jobs.{writeOf, EachDone, writesOf, EachInTurn}
 use Rattle.laws.proofs.Acceptance.{ran-number, ran, accepted-by}
-use Rattle.laws.proofs.Rewriting.{entryNumber, Admitted, judged-done, admitted-next}
+use Rattle.laws.proofs.Agreement.{tallies-agree}
+use Rattle.laws.proofs.Rewriting.{entryNumber, Admitted, judged-done, admitted-next, admitted-alike}
 
 -- ---- one entry
 
 abbrev chipOf : List ℕ → State → Chip
 chipOf rows state = record { rows = rows; state = state }
+
+-- the state with some gains counted
+abbrev withGained : State → List Gain → State
+withGained state gained = withTallies state (withGains (state .tallies) gained)
 
 -- what Secure's write of a row that it may write is refused for: nothing
 call-done : (rows : List ℕ) (state : State) (row : ℕ) (coded : Bool) (valueTooLarge : Bool) → length rows ≡ 4096 → row < 0xf40
@@ -59,7 +66,10 @@ module _ (rows : List ℕ) (state : State) (e : Entry) (long : length rows ≡ 4
 
   -- what a write leaves of the chip, by what it makes of the row
   abbrev made : Written → Result
-  made written = record { answer = spent 0 (written .pulses); chip = chipOf (set rows (e .row) (written .row)) state }
+  made written = record {
+    answer = spent 0 (written .pulses);
+    chip = chipOf (set rows (e .row) (written .row)) (withGained state (e .row gains written .pulses ∷ []));
+  }
 
   raw-made : perform (chipOf rows state) (aRawWrite 0 (e .row) (e .value)) ≡ made (rawWritten old (e .value))
   unfolding perform writeRaw
@@ -94,19 +104,26 @@ module _ (rows : List ℕ) (state : State) (e : Entry) (long : length rows ≡ 4
 
 -- ---- all entries
 
+-- the chip that they leave
+abbrev leftBy : List Entry → List ℕ → State → Chip
+leftBy es rows state = chipOf (allWritten rows es) (withGained state (allGained rows es))
+
 in-turn : {least : ℕ} (es : List Entry) (at : ℕ) (rows : List ℕ) (state : State) → length rows ≡ 4096 → formFaults at es ≡ Sound
-    → Admitted rows state least es → EachDone (chipOf rows state) (writesOf es) (allPulses rows es) (chipOf (allWritten rows es) state)
-unfolding formFaults writesOf allPulses allWritten
+    → Admitted rows state least es → EachDone (chipOf rows state) (writesOf es) (allPulses rows es) (leftBy es rows state)
+unfolding formFaults writesOf allPulses allWritten allGained
 in-turn [] at rows state long sound Admitted.none = EachDone.none
 in-turn (e ∷ others) at rows state long sound (Admitted.more low high small judged rest) =
     let forms = both-sound (formFault at e) (formFaults (at + 1) others) sound in
     let new : ℕ = writtenOver rows e .row in
     let write = entry-made rows state e long high small judged (form-kept at e (forms .0)) in
-    let later = in-turn others (at + 1) (withEntry rows e) state (length-set rows (e .row) new ∙ long) (forms .1) (admitted-next (e .row) new rest) in
-    subst (λ (n : ℕ). EachDone (chipOf rows state) (writeOf e ∷ writesOf others) (n + allPulses (withEntry rows e) others) (chipOf (allWritten (withEntry rows e) others) state))
+    let next : State = withGained state (e .row gains writtenOver rows e .pulses ∷ []) in
+    let agree = tallies-agree state (next .tallies) 0 in
+    let later =
+    in-turn others (at + 1) (withEntry rows e) next (length-set rows (e .row) new ∙ long) (forms .1) (admitted-alike agree (admitted-next (e .row) new rest)) in
+    subst (λ (n : ℕ). EachDone (chipOf rows state) (writeOf e ∷ writesOf others) (n + allPulses (withEntry rows e) others) (leftBy others (withEntry rows e) next))
     (ap (λ (r : Result). r .answer .pulses) write)
     (EachDone.more (ap (λ (r : Result). r .answer .number) write)
-    (subst (λ (chip : Chip). EachDone chip (writesOf others) (allPulses (withEntry rows e) others) (chipOf (allWritten (withEntry rows e) others) state))
+    (subst (λ (chip : Chip). EachDone chip (writesOf others) (allPulses (withEntry rows e) others) (leftBy others (withEntry rows e) next))
     (sym (ap (λ (r : Result). r .chip) write)) later))
 
 pub eachInTurn : EachInTurn

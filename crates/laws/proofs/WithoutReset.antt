@@ -1,10 +1,10 @@
--- Calls with no reset among them: what relates the states before and after, if advancing a lock and entering a key keep it.
+-- Calls with no reset among them: what relates the states before and after, if advancing a lock, entering a key and other tallies keep it.
 -- Assumes nothing.
 use mathlib.Core.List.{List, [], _∷_}
-use mathlib.Core.Path.{_≡_, refl}
+use mathlib.Core.Path.{_≡_, refl, sym, subst}
 use Prim.Native.Nat.{ℕ}
 use lib.Dec.{eqb}
-use Rattle.chip.specs.States.{withEntered}
+use Rattle.chip.specs.States.{withEntered, withTallies}
 use Rattle.chip.specs.declared.state.State.{State}
 use Rattle.chip.specs.declared.state.Outcome.{Outcome}
 use Rattle.latch.specs.Calls.{advanceNumber, advanced, advance, enterNumber, enterKey}
@@ -16,10 +16,12 @@ use Rattle.row.proofs.Choices.{both-ways}
 module _ (Kept : State → State → Type 0) (itself : (state : State) → Kept state state)
     (through : (a b c : State) → Kept a b → Kept b c → Kept a c)
     (by-advance : (state : State) (domain page level : ℕ) → Kept state (advanced state domain page level))
-    (by-key : (state : State) (words : List ℕ) → Kept state (withEntered state words)) where
-  -- what burns changes nothing latched
+    (by-key : (state : State) (words : List ℕ) → Kept state (withEntered state words))
+    (by-tallies : (state : State) (tallies : List ℕ) → Kept state (withTallies state tallies)) where
+  -- what burns changes nothing but the tallies
   by-burning : (chip : Chip) {call : Call} → Burns call → Kept (chip .state) (perform chip call .chip .state)
-  by-burning chip {call} burns = rw (burningLatchesNothing chip call burns) (itself (chip .state))
+  by-burning chip {call} burns =
+      subst (Kept (chip .state)) (sym (burningLatchesNothing chip call burns)) (by-tallies (chip .state) (perform chip call .chip .state .tallies))
 
   by-call : (chip : Chip) (call : Call) → (call ≡ aReset → ⊥) → Kept (chip .state) (perform chip call .chip .state)
   unfolding perform advance enterKey

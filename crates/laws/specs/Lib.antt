@@ -10,3 +10,4 @@ pub mod LockRows
 pub mod Callers
 pub mod Cuts
 pub mod Jobs
+pub mod Tallies

@@ -16,6 +16,7 @@ use Rattle.chip.specs.Callers.{shownLevel}
 use Rattle.chip.specs.Pages.{highLockRow}
 use Rattle.chip.specs.Permission.{mayRead, mayWrite}
 use Rattle.chip.specs.Slices.{rowAt}
+use Rattle.chip.specs.States.{withTallies}
 use Rattle.chip.specs.declared.state.State.{State}
 use Rattle.latch.specs.Calls.{advance}
 use Rattle.latch.specs.Locks.{levelOf, secureField, nonsecureField, bootloaderField}
@@ -135,10 +136,11 @@ pub data Burns : Call → Type 0 where
   job : {bytes : List ℕ} → Burns (aJob bytes)
   rehearsal : {bytes : List ℕ} {limit : ℕ} → Burns (aRehearsal bytes limit)
 
--- burning a lock or key row, or any other, changes nothing latched
+-- burning a lock or key row, or any other, changes nothing latched: nothing of the state but the tallies
 abbrev pub BurningLatchesNothing : Type 0
 BurningLatchesNothing =
-    (chip : Chip) (call : Call) → Burns call → perform chip call .chip .state ≡ chip .state
+    (chip : Chip) (call : Call) → Burns call
+    → perform chip call .chip .state ≡ withTallies (chip .state) (perform chip call .chip .state .tallies)
 
 -- pulses are the bits newly set, of every done call that burns
 abbrev pub PulsesAreNewBits : Type 0

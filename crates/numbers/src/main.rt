@@ -15,6 +15,7 @@ mod same;
 mod scene;
 mod state_calls;
 mod states;
+mod tallies;
 mod text;
 
 use libc::STDIN_FILENO;
@@ -29,7 +30,8 @@ repaired bit, or worn where bits 23 and 22 disagree, with the repaired bit; ~ ma
 S is the caller Secure (0), N is Non-secure (1), B is the bootloader (2). What must be left of rows
 and state:
   kept     every row and the whole state as they were
-  burnt    the row as the write must leave it, every other row and the whole state as they were
+  burnt    the row as the write must leave it, its new bits in the tally of its page, every other row
+           and the rest of the state as they were
   latched  the state that reset must make of the rows
   raised   the state with that one level
   entered  the state with that key entered

@@ -38,7 +38,9 @@ pub const KEY: usize = 16;
 
 pub const ENTERED: usize = 17;
 
-pub const COUNT: usize = 18;
+pub const TALLY: usize = 18;
+
+pub const COUNT: usize = 19;
 
 // The place of the name that a line begins with, or COUNT where there is none. Every name fills
 // nine places of the list.
@@ -49,7 +51,8 @@ pub fn place_of(head: &[u8]) -> usize {
         advance  show     enter key\
         entries  row      open     \
         levels   indexes  words    \
-        bytes    key      entered  ";
+        bytes    key      entered  \
+        tally    ";
     let mut place = 0;
     while place < COUNT {
         let from = 9 * place;

@@ -3,8 +3,12 @@ use crate::answers;
 use crate::board::Board;
 use crate::board::ROWS;
 use crate::print;
+use crate::said::NONE;
 use crate::said::Said;
+use crate::said::or_zero;
 use crate::same::same_state;
+use crate::states;
+use crate::tallies;
 use chip::state::Outcome;
 use chip::state::State;
 use row::answer::Answer;
@@ -51,25 +55,47 @@ pub fn must_rows(before: [u32; ROWS], said: Said) -> [u32; ROWS] {
     rows
 }
 
-// A write: all rows were compared, and the whole state is, which no write changes.
-pub fn written(board: Board, said: Said, outcome: Outcome, same_rows: bool) -> Board {
-    let is = outcome.answer;
-    let left = outcome.state;
-    let state = board.state;
-    let as_must = same_rows && same_state(left, state);
-    if said.number == 0 {
-        return finished(board, said, is, b"burnt", as_must);
+// A done write leaves the tally of its page as the line says, or as the bits newly set make it, and the rest of the state.
+fn must_state(state: State, said: Said) -> State {
+    if said.tally != NONE {
+        return states::with_tally(state, said.second / 64, said.tally);
     }
-    finished(board, said, is, b"kept", as_must)
+    tallies::with_new_bits(state, said.second, or_zero(said.pulses))
 }
 
-// A call on the state alone, with what it must leave and the word for that.
-pub fn changed(board: Board, said: Said, outcome: Outcome, must: State, word: &[u8]) -> Board {
+// A call that can change the state, with what it must leave and the word for that. Of a write all rows were compared.
+fn left(
+    board: Board,
+    said: Said,
+    outcome: Outcome,
+    must: State,
+    word: &[u8],
+    same_rows: bool,
+) -> Board {
     let is = outcome.answer;
-    let left = outcome.state;
-    let as_must = same_state(left, must);
+    let after = outcome.state;
+    let as_must = same_rows && same_state(after, must);
     let mut next = board;
     next.state = must;
     next.hand = must;
     finished(next, said, is, word, as_must)
+}
+
+pub fn written(board: Board, said: Said, outcome: Outcome, same_rows: bool) -> Board {
+    let state = board.state;
+    if said.number == 0 {
+        return left(
+            board,
+            said,
+            outcome,
+            must_state(state, said),
+            b"burnt",
+            same_rows,
+        );
+    }
+    left(board, said, outcome, state, b"kept", same_rows)
+}
+
+pub fn changed(board: Board, said: Said, outcome: Outcome, must: State, word: &[u8]) -> Board {
+    left(board, said, outcome, must, word, true)
 }

@@ -86,6 +86,11 @@ fn with_entered(board: Board) -> Board {
     board::with_hand(board, states::with_entered(hand, words))
 }
 
+fn with_tally(board: Board, page: u32, count: u32) -> Board {
+    let hand = board.hand;
+    board::with_hand(board, states::with_tally(hand, page, count))
+}
+
 // The lines that make a state by hand.
 fn with_state(board: Board, name: usize, said: Said) -> Board {
     if name == names::OPEN {
@@ -102,6 +107,9 @@ fn with_state(board: Board, name: usize, said: Said) -> Board {
     }
     if name == names::ENTERED {
         return with_entered(board);
+    }
+    if name == names::TALLY {
+        return with_tally(board, said.first, said.second);
     }
     print::text(b"no such line\n");
     board

@@ -1,8 +1,8 @@
 // The numbers of a line of a scene: what a call is given, and after a colon what must be.
 
 // What must be is a number, a value, the place of a repaired bit, pulses, what is left, which is the
-// row that a write leaves or the level that an advance leaves, and the polarity of a row that is
-// read and whether its bits 23 and 22 disagree.
+// row that a write leaves or the level that an advance leaves, the polarity of a row that is read
+// and whether its bits 23 and 22 disagree, and the tally that a write leaves its page.
 pub struct Said {
     pub first: u32,
     pub second: u32,
@@ -15,6 +15,7 @@ pub struct Said {
     pub left: u32,
     pub polarity: u32,
     pub disagree: u32,
+    pub tally: u32,
 }
 
 // What a number that is left out, or written as a dash, stands as.
@@ -29,7 +30,7 @@ pub fn or_zero(number: u32) -> u32 {
 
 // The numbers as far as they are read, in the order above.
 struct Scan {
-    numbers: [u32; 11],
+    numbers: [u32; 12],
     at: usize,
     hex: bool,
     inside: bool,
@@ -66,7 +67,7 @@ fn ended(scan: Scan, byte: u8) -> Scan {
     }
     let at = scan.at;
     if scan.inside {
-        if at < 10 {
+        if at < 11 {
             next.at = at + 1;
         }
     }
@@ -77,7 +78,7 @@ fn ended(scan: Scan, byte: u8) -> Scan {
 fn with_digit(scan: Scan, own: u32) -> Scan {
     let mut next = scan;
     next.inside = true;
-    let at = scan.at % 11;
+    let at = scan.at % 12;
     if scan.inside {
         next.numbers[at] = grown(scan.numbers[at], scan.hex, own);
         return next;
@@ -101,9 +102,9 @@ fn scanned(scan: Scan, byte: u8) -> Scan {
 }
 
 // The numbers of a part of a line, decimal or, after 0x, hexadecimal.
-fn numbers(part: &[u8]) -> [u32; 11] {
+fn numbers(part: &[u8]) -> [u32; 12] {
     let mut scan = Scan {
-        numbers: [NONE; 11],
+        numbers: [NONE; 12],
         at: 0,
         hex: false,
         inside: false,
@@ -130,5 +131,6 @@ pub fn read_line(part: &[u8]) -> Said {
         left: n[8],
         polarity: n[9],
         disagree: n[10],
+        tally: n[11],
     }
 }

@@ -1,6 +1,7 @@
 // Whether the state that a call left is what must be, field by field.
 use chip::state::Key;
 use chip::state::State;
+use screen::same::same_tallies;
 
 fn same_pages(a: [u8; 64], b: [u8; 64]) -> bool {
     let mut page = 0;
@@ -81,8 +82,11 @@ pub fn same_state(a: State, b: State) -> bool {
     let b_keys = b.keys;
     let a_entered = a.entered;
     let b_entered = b.entered;
+    let a_tallies = a.tallies;
+    let b_tallies = b.tallies;
     same_levels(a, b)
         && same_indexes(a, b)
         && same_keys(a_keys, b_keys)
         && same_words(a_entered, b_entered)
+        && same_tallies(a_tallies, b_tallies)
 }

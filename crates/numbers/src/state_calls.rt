@@ -6,17 +6,19 @@ use crate::outcomes::changed;
 use crate::said::NONE;
 use crate::said::Said;
 use crate::states;
+use crate::tallies::with_counted;
 use chip::state::Outcome;
 use chip::state::State;
 
-// A done reset leaves what was made by hand. A refused one gives back what came in.
+// A done reset leaves what was made by hand, with the tallies that the rows have. A refused one gives back what came in.
 pub fn reset(board: Board, rows: &[u32], said: Said) -> Board {
     let state = board.state;
     let hand = board.hand;
     let end = within(board.entries, rows.len());
     let outcome = latch::resetting::reset(&rows[0..end], state);
     if said.number == 0 {
-        return changed(board, said, outcome, hand, b"latched");
+        let must = with_counted(hand, &rows[0..end]);
+        return changed(board, said, outcome, must, b"latched");
     }
     changed(board, said, outcome, state, b"kept")
 }

@@ -76,6 +76,13 @@ pub fn with_key(state: State, k: u32, words: [u16; 8], valid: u32, whole: u32) -
     next
 }
 
+pub fn with_tally(state: State, page: u32, count: u32) -> State {
+    let mut next = state;
+    let at = (page % 64) as usize;
+    next.tallies[at] = (count % 65536) as u16;
+    next
+}
+
 pub fn with_entered(state: State, words: [u16; 8]) -> State {
     let mut next = state;
     next.entered = words;

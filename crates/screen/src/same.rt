@@ -1,7 +1,8 @@
-// Whether an answer or the rows of a chip are what they must be.
+// Whether an answer, the tallies or the rows of a chip are what they must be.
 ghost use mathlib.Core.Path.{_≡_};
 ghost use Rattle.chip.specs.Lists.{same};
 ghost use Rattle.screen.specs.Same as spec;
+use chip::state::Tallies;
 use row::answer::Answer;
 use row::conditions::condition_number;
 use row::conditions::polarity_number;
@@ -40,6 +41,19 @@ pub fn same_answer(a: Answer, b: Answer) -> bool
         return false;
     }
     same_said(a, b)
+}
+
+pub fn same_tallies(a: Tallies, b: Tallies) -> bool
+    ensures { λ r. ⌜ r ≡ same a b ⌝ }
+{
+    let mut page = 0;
+    while page < 64 {
+        if a[page] != b[page] {
+            return false;
+        }
+        page += 1;
+    }
+    true
 }
 
 pub fn same_rows(a: &[u32], b: &[u32]) -> bool

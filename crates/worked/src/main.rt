@@ -1,6 +1,6 @@
 // Runs document 01's worked rows and jobs, and further vectors, against the code of `row` and `job`.
 // Each line has what must be, what is, and the verdict. What must be is written out: from document
-// 01, or worked out from its masks apart from `row`.
+// 01 and the requests, or worked out from its masks apart from `row`.
 mod between;
 mod codes;
 mod damage;
@@ -8,6 +8,7 @@ mod double_damage;
 mod job_cases;
 mod job_cuts;
 mod job_lines;
+mod job_tallies;
 mod print;
 mod read_lines;
 mod samples;
@@ -35,6 +36,7 @@ fn main() {
     let voted = votes::run(over_single_bits);
     let places = vote_places::run(voted);
     let jobs = job_cases::run(places);
-    let all = job_cuts::run(jobs);
+    let cuts = job_cuts::run(jobs);
+    let all = job_tallies::run(cuts);
     tally::last_line(all);
 }

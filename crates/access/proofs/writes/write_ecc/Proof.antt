@@ -1,4 +1,4 @@
--- `access::writes::write_ecc` meets its contract: what was burnt, and the state that came in beside the answer.
+-- `access::writes::write_ecc` meets its contract: what was burnt, and the state beside the answer.
 -- Assumes nothing.
 use borrow.Author.Needs.{needs}
 use denote.Ref.{now}
@@ -40,23 +40,26 @@ write-ecc-requires c κs = search needs
 burn-requires : tie.Need-burn-requires
 burn-requires c κs = search needs
 
+beside-requires : tie.Need-beside-requires
+beside-requires c κs = search needs
+
 same-length : tie.Need-same-length
 same-length c = search needs
 
 returns : tie.Need-returns
 unfolding writeEcc callRungs rowRungs refusing
 returns c =
-    let s = c .before .before .before .before .before .before .before .before .before .before .before .args in
+    let s = c .before .before .before .before .before .before .before .before .before .before .before .before .args in
     let rows = now (s .rows) in
-    let burnt = c .before .before .burn .ensures in
+    let burnt = c .before .before .before .burn .ensures in
     let rungs = callRungs rows (s .state) (s .caller) (s .row) ecc (ltb 65535 (s .value)) (mayWrite (s .state) (s .caller) (s .row)) in
-    let number : c .before .before .before .before .before .before .before .call-number .result ≡ firstOf rungs =
-    c .before .before .before .before .before .before .before .call-number .ensures ∙ ap (λ (may : Bool). firstOf (callRungs rows (s .state) (s .caller) (s .row) ecc (ltb 65535 (s .value)) may)) (c .before .before .before .before .before .before .before .before .before .may-write .ensures) in
-    leaves rows _ (s .state) (s .row) (c .before .before .before .before .before .before .before .call-number .result) _ (c .before .before .before .before .write-ecc .result) (eccWritten (rowAt rows (s .row)) (s .value)) _ (burnt .0) (burnt .1)
+    let number : c .before .before .before .before .before .before .before .before .call-number .result ≡ firstOf rungs =
+    c .before .before .before .before .before .before .before .before .call-number .ensures ∙ ap (λ (may : Bool). firstOf (callRungs rows (s .state) (s .caller) (s .row) ecc (ltb 65535 (s .value)) may)) (c .before .before .before .before .before .before .before .before .before .before .may-write .ensures) in
+    leaves rows _ _ (s .state) (s .row) (c .before .before .before .before .before .before .before .before .call-number .result) _ (c .before .before .before .before .before .write-ecc .result) (eccWritten (rowAt rows (s .row)) (s .value)) _ (burnt .0) (burnt .1) (c .beside .ensures)
     (λ none.
     let low : s .value ≤ 65535 = ltb-false 65535 (s .value)
     (call-passed rows (s .state) (s .caller) (s .row) ecc (ltb 65535 (s .value)) (mayWrite (s .state) (s .caller) (s .row)) (sym number ∙ none) .1) in
-    c .before .before .before .before .write-ecc .ensures ∙ ap₂ eccWritten (c .before .before .before .before .before .row-at .ensures) (mod-eq-of-lt (omega arith)))
+    c .before .before .before .before .before .write-ecc .ensures ∙ ap₂ eccWritten (c .before .before .before .before .before .before .row-at .ensures) (mod-eq-of-lt (omega arith)))
     (ap₂ orElse number (nine (rowAt rows (s .row)) (s .value))
     ∙ sym (then-rungs rungs (9 when neitherFits (rowAt rows (s .row)) (s .value) ∷ []) tt))
 
@@ -70,5 +73,6 @@ write-ecc-spec =
     cast-write-ecc
     write-ecc-requires
     burn-requires
+    beside-requires
     same-length
     returns)

@@ -1,4 +1,4 @@
--- `access::writes::write_raw` meets its contract: what was burnt, and the state that came in beside the answer.
+-- `access::writes::write_raw` meets its contract: what was burnt, and the state beside the answer.
 -- Assumes nothing.
 use borrow.Author.Needs.{needs}
 use denote.Ref.{now}
@@ -31,19 +31,22 @@ write-raw-requires c κs = search needs
 burn-requires : tie.Need-burn-requires
 burn-requires c κs = search needs
 
+beside-requires : tie.Need-beside-requires
+beside-requires c κs = search needs
+
 same-length : tie.Need-same-length
 same-length c = search needs
 
 returns : tie.Need-returns
 unfolding writeRaw
 returns c =
-    let s = c .before .before .before .before .before .before .before .before .before .before .before .args in
+    let s = c .before .before .before .before .before .before .before .before .before .before .before .before .args in
     let rows = now (s .rows) in
-    let burnt = c .before .before .burn .ensures in
-    leaves rows _ (s .state) (s .row) (c .before .before .before .before .before .before .before .call-number .result) (writeRawNumber rows (s .state) (s .caller) (s .row) (s .value)) (c .before .before .before .before .write-raw .result) (rawWritten (rowAt rows (s .row)) (s .value)) _ (burnt .0) (burnt .1)
-    (λ none. c .before .before .before .before .write-raw .ensures ∙ ap (λ (old : ℕ). rawWritten old (s .value)) (c .before .before .before .before .before .row-at .ensures))
-    (or-nothing (c .before .before .before .before .before .before .before .call-number .result) ∙ c .before .before .before .before .before .before .before .call-number .ensures
-    ∙ ap (λ (may : Bool). firstOf (callRungs rows (s .state) (s .caller) (s .row) raw (ltb 16777215 (s .value)) may)) (c .before .before .before .before .before .before .before .before .before .may-write .ensures))
+    let burnt = c .before .before .before .burn .ensures in
+    leaves rows _ _ (s .state) (s .row) (c .before .before .before .before .before .before .before .before .call-number .result) (writeRawNumber rows (s .state) (s .caller) (s .row) (s .value)) (c .before .before .before .before .before .write-raw .result) (rawWritten (rowAt rows (s .row)) (s .value)) _ (burnt .0) (burnt .1) (c .beside .ensures)
+    (λ none. c .before .before .before .before .before .write-raw .ensures ∙ ap (λ (old : ℕ). rawWritten old (s .value)) (c .before .before .before .before .before .before .row-at .ensures))
+    (or-nothing (c .before .before .before .before .before .before .before .before .call-number .result) ∙ c .before .before .before .before .before .before .before .before .call-number .ensures
+    ∙ ap (λ (may : Bool). firstOf (callRungs rows (s .state) (s .caller) (s .row) raw (ltb 16777215 (s .value)) may)) (c .before .before .before .before .before .before .before .before .before .before .may-write .ensures))
 
 pub write-raw-spec : {M : Type 1} → statement M
 write-raw-spec =
@@ -54,5 +57,6 @@ write-raw-spec =
     row-at-requires
     write-raw-requires
     burn-requires
+    beside-requires
     same-length
     returns)

@@ -1,4 +1,4 @@
--- `job::burning::rehearsed` meets its contract. The invariant: what was burnt already, ahead of what is left, is the whole.
+-- `job::burning::rehearsed` meets its contract. The invariant: what was burnt and counted already, ahead of what is left, is the whole.
 -- Assumes nothing.
 use borrow.Author.Needs.{needs}
 use denote.Ref.{now}
@@ -10,32 +10,34 @@ use lib.ListN.{length, set, length-set}
 use Rattle.row.specs.declared.writing.Written.{Written}
 use Rattle.row.specs.Upward.{burntUpward}
 use Rattle.chip.specs.Slices.{rowAt}
+use Rattle.chip.specs.Tallies.{_gains_, withGain}
 use Rattle.form.specs.Entries.{entryAt, entriesFrom}
 use Rattle.form.specs.declared.entries.Entry.{Entry}
-use Rattle.job.specs.Burning.{Progress, writtenOver, withEntry, rehearsed}
+use Rattle.job.specs.Burning.{Progress, writtenOver, withEntry, cutGained, rehearsed}
 use Rattle.job.specs.Verdicts.{entryWritten}
+use Rattle.chip.proofs.PageBits.{length-gains}
 use Rattle.form.proofs.Upward.{all-left}
-use Rattle.job.proofs.Ahead.{ahead, none-ahead, one-ahead, burn-next, burn-stops, burn-ends}
+use Rattle.job.proofs.Ahead.{Ahead, none-ahead, one-ahead, burn-next, burn-stops, burn-ends}
 use Rattle.job.proofs.burning.rehearsed.Statement.{statement}
 use Rattle.job.proofs.burning.rehearsed.Tie as tie
 
 abbrev Inv-loop : tie.InvT-loop
-Inv-loop rows₀ job count limit unspent₀ i₀ rows unspent i =
-    (i ≤ count) × (unspent ≤ limit) × (length rows ≡ length rows₀)
-    × (rehearsed rows₀ limit (entriesFrom job 0 count) ≡ ahead (limit - unspent) i (rehearsed rows unspent (entriesFrom job i (count - i))))
+Inv-loop rows₀ tallies₀ job count limit unspent₀ i₀ rows tallies unspent i =
+    (i ≤ count) × (unspent ≤ limit) × (length rows ≡ length rows₀) × (length tallies ≡ length tallies₀)
+    × Ahead tallies₀ (rehearsed rows₀ limit (entriesFrom job 0 count)) tallies (limit - unspent) i (rehearsed rows unspent (entriesFrom job i (count - i)))
 
 abbrev μ-loop : tie.MeasureT-loop
-μ-loop rows₀ job count limit unspent₀ i₀ rows unspent i = count - i
+μ-loop rows₀ tallies₀ job count limit unspent₀ i₀ rows tallies unspent i = count - i
 
 loop-holds : tie.Need-loop-holds Inv-loop μ-loop
 loop-holds c =
-    let s = c .before .before .args in (
+    let s = c .before .before .before .args in
+    let whole : Progress = rehearsed (now (s .rows)) (s .limit) (entriesFrom (now (s .job)) 0 (s .count)) in (
       search needs,
       search needs,
       refl,
-      ap (rehearsed (now (s .rows)) (s .limit)) (all-left (now (s .job)) (s .count))
-          ∙ none-ahead (rehearsed (now (s .rows)) (s .limit) (entriesFrom (now (s .job)) 0 (s .count - 0)))
-          ∙ ap (λ (spent : ℕ). ahead spent 0 (rehearsed (now (s .rows)) (s .limit) (entriesFrom (now (s .job)) 0 (s .count - 0)))) (sym (sub-self (s .limit))),
+      refl,
+      rw (← all-left (now (s .job)) (s .count), sub-self (s .limit)) (none-ahead (now (s .tallies)) whole),
     )
 
 entry-at-requires : tie.Need-entry-at-requires Inv-loop μ-loop
@@ -53,34 +55,49 @@ burnt-upward-requires c κs = search needs
 put-requires : tie.Need-put-requires Inv-loop μ-loop
 put-requires c κs = search needs
 
+cut-gained-requires : tie.Need-cut-gained-requires Inv-loop μ-loop
+cut-gained-requires c κs = search needs
+
 same-length : tie.Need-same-length Inv-loop μ-loop
 same-length c =
-    let l = c .before .before .before .before .before .before .before .before .before .before .before .loop in
-    ap length (c .before .before .put .ensures) ∙ length-set (l .rows) (c .before .before .before .before .before .before .before .before .before .entry-at .result .row) (c .before .before .before .burnt-upward .result) ∙ l .inv .2
+    let l = c .before .before .before .before .before .before .before .before .before .before .before .before .before .before .before .loop in
+    ap length (c .before .before .before .before .before .before .put .ensures) ∙ length-set (l .rows) _ _ ∙ l .inv .2
+
+same-length-2 : tie.Need-same-length-2 Inv-loop μ-loop
+same-length-2 c =
+    let s = c .before .before .before .before .before .before .before .before .before .before .before .before .before .before .before .before .before .before .before .args in
+    let l = c .before .before .before .before .before .before .before .before .before .before .before .before .before .before .before .loop in
+    ap length (c .before .before .cut-gained .ensures)
+    ∙ length-gains (l .tallies) (cutGained (l .unspent) (entriesFrom (now (s .job)) (l .i) (s .count - l .i))) ∙ l .inv .3
 
 returns : tie.Need-returns Inv-loop μ-loop
 returns c =
-    let s = c .before .before .before .before .before .before .before .before .before .before .before .before .before .before .args in
+    let s = c .before .before .before .before .before .before .before .before .before .before .before .before .before .before .before .before .before .before .before .args in
     let job = now (s .job) in
-    let l = c .before .before .before .before .before .before .before .before .before .before .before .loop in
-    let written : c .before .before .before .before .before .before .entry-written .result ≡ writtenOver (l .rows) (entryAt job (l .i)) =
-    c .before .before .before .before .before .before .entry-written .ensures ∙ ap (λ (old : ℕ). entryWritten old (c .before .before .before .before .before .before .before .before .before .entry-at .result)) (c .before .before .before .before .before .before .before .row-at .ensures)
-    ∙ ap (λ (e : Entry). writtenOver (l .rows) e) (c .before .before .before .before .before .before .before .before .before .entry-at .ensures) in
+    let l = c .before .before .before .before .before .before .before .before .before .before .before .before .before .before .before .loop in
+    let entry = c .before .before .before .before .before .before .before .before .before .before .before .before .before .entry-at .ensures in
+    let written : c .before .before .before .before .before .before .before .before .before .before .entry-written .result ≡ writtenOver (l .rows) (entryAt job (l .i)) =
+    c .before .before .before .before .before .before .before .before .before .before .entry-written .ensures ∙ ap (λ (old : ℕ). entryWritten old (c .before .before .before .before .before .before .before .before .before .before .before .before .before .entry-at .result)) (c .before .before .before .before .before .before .before .before .before .before .before .row-at .ensures)
+    ∙ ap (λ (e : Entry). writtenOver (l .rows) e) entry in
+    let row = ap (λ (e : Entry). e .row) entry in
     let short : l .unspent < writtenOver (l .rows) (entryAt job (l .i)) .pulses =
-    subst (λ (w : Written). l .unspent < w .pulses) written (c .before .before .before .before .before .if1 .taken) in
-    let whole = l .inv .3 ∙ ap (ahead (s .limit - l .unspent) (l .i)) (burn-stops job (s .count) (l .rows) (l .unspent) (l .i) (omega arith) short) in
-    let row = ap (λ (e : Entry). e .row) (c .before .before .before .before .before .before .before .before .before .entry-at .ensures) in
-    let cut : c .before .before .before .burnt-upward .result ≡ burntUpward (l .unspent) (rowAt (l .rows) (entryAt job (l .i) .row)) (writtenOver (l .rows) (entryAt job (l .i)) .row) =
-    c .before .before .before .burnt-upward .ensures
-    ∙ ap₂ (burntUpward (l .unspent)) (c .before .before .before .before .before .before .before .row-at .ensures ∙ ap (rowAt (l .rows)) row) (ap (λ (w : Written). w .row) written) in
+    subst (λ (w : Written). l .unspent < w .pulses) written (c .before .before .before .before .before .before .before .before .before .if1 .taken) in
+    let stopped = rw (burn-stops job (s .count) (l .rows) (l .unspent) (l .i) (omega arith) short) at (l .inv .4) in
+    let cut : c .before .before .before .before .before .before .before .burnt-upward .result ≡ burntUpward (l .unspent) (rowAt (l .rows) (entryAt job (l .i) .row)) (writtenOver (l .rows) (entryAt job (l .i)) .row) =
+    c .before .before .before .before .before .before .before .burnt-upward .ensures
+    ∙ ap₂ (burntUpward (l .unspent)) (c .before .before .before .before .before .before .before .before .before .before .before .row-at .ensures ∙ ap (rowAt (l .rows)) row) (ap (λ (w : Written). w .row) written) in
     let all : s .limit - l .unspent + l .unspent ≡ s .limit = omega arith in (
-      c .before .before .put .ensures ∙ ap₂ (set (l .rows)) row cut ∙ sym (ap (λ (p : Progress). p .rows) whole),
-      sym (ap (λ (p : Progress). p .pulses) whole ∙ all),
-      sym (ap (λ (p : Progress). p .place) whole ∙ add-zero (l .i)),
+      c .before .before .before .before .before .before .put .ensures ∙ ap₂ (set (l .rows)) row cut ∙ sym (stopped .rows),
+      c .before .before .cut-gained .ensures ∙ sym (stopped .counted),
+      sym (stopped .pulses ∙ all),
+      sym (stopped .place ∙ add-zero (l .i)),
     )
 
 put-requires-2 : tie.Need-put-requires-2 Inv-loop μ-loop
 put-requires-2 c κs = search needs
+
+gain-requires : tie.Need-gain-requires Inv-loop μ-loop
+gain-requires c κs = search needs
 
 add-i : tie.Need-add-i Inv-loop μ-loop
 add-i c = omega arith
@@ -90,43 +107,48 @@ loop-less c = omega arith
 
 loop-again : tie.Need-loop-again Inv-loop μ-loop
 loop-again c =
-    let s = c .before .before .before .before .before .before .before .before .before .before .before .before .before .args in
+    let s = c .before .before .before .before .before .before .before .before .before .before .before .before .before .before .before .before .before .before .args in
     let job = now (s .job) in
-    let l = c .before .before .before .before .before .before .before .before .before .before .loop in
-    let written : c .before .before .before .before .before .entry-written .result ≡ writtenOver (l .rows) (entryAt job (l .i)) =
-    c .before .before .before .before .before .entry-written .ensures ∙ ap (λ (old : ℕ). entryWritten old (c .before .before .before .before .before .before .before .before .entry-at .result)) (c .before .before .before .before .before .before .row-at .ensures)
-    ∙ ap (λ (e : Entry). writtenOver (l .rows) e) (c .before .before .before .before .before .before .before .before .entry-at .ensures) in
-    let u : ℕ = c .before .before .before .before .before .entry-written .result .pulses in
-    let row = ap (λ (e : Entry). e .row) (c .before .before .before .before .before .before .before .before .entry-at .ensures) in
-    let next : c .before .before .put2 .last .0 ≡ withEntry (l .rows) (entryAt job (l .i)) =
-    c .before .before .put2 .ensures ∙ ap₂ (set (l .rows)) row (ap (λ (w : Written). w .row) written) in
-    let enough : u ≤ l .unspent = c .before .before .before .before .if1 .left in
-    let spent : s .limit - l .unspent + u ≡ s .limit - (l .unspent - u) = omega arith in (
+    let l = c .before .before .before .before .before .before .before .before .before .before .before .before .before .before .loop in
+    let entry = c .before .before .before .before .before .before .before .before .before .before .before .before .entry-at .ensures in
+    let written : c .before .before .before .before .before .before .before .before .before .entry-written .result ≡ writtenOver (l .rows) (entryAt job (l .i)) =
+    c .before .before .before .before .before .before .before .before .before .entry-written .ensures ∙ ap (λ (old : ℕ). entryWritten old (c .before .before .before .before .before .before .before .before .before .before .before .before .entry-at .result)) (c .before .before .before .before .before .before .before .before .before .before .row-at .ensures)
+    ∙ ap (λ (e : Entry). writtenOver (l .rows) e) entry in
+    let row = ap (λ (e : Entry). e .row) entry in
+    let u : ℕ = c .before .before .before .before .before .before .before .before .before .entry-written .result .pulses in
+    let next : c .before .before .before .before .before .before .put2 .last .0 ≡ withEntry (l .rows) (entryAt job (l .i)) =
+    c .before .before .before .before .before .before .put2 .ensures ∙ ap₂ (set (l .rows)) row (ap (λ (w : Written). w .row) written) in
+    let counted : c .before .before .gain .last .0 ≡ withGain (l .tallies) (entryAt job (l .i) .row gains u) =
+    c .before .before .gain .ensures ∙ ap (λ (at : ℕ). withGain (l .tallies) (at gains u)) row in
+    let enough : u ≤ l .unspent = c .before .before .before .before .before .before .before .before .if1 .left in
+    let spent : s .limit - l .unspent + u ≡ s .limit - (l .unspent - u) = omega arith in
+    let burnt = rw (burn-next job (s .count) (l .rows) (l .unspent) (l .i) (omega arith) (c .before .before .before .before .before .before .put2 .last .0) u (ap (λ (w : Written). w .pulses) written) next enough) at (l .inv .4) in (
       omega arith,
       omega arith,
-      ap length (c .before .before .put2 .ensures) ∙ length-set (l .rows) (c .before .before .before .before .before .before .before .before .entry-at .result .row) (c .before .before .before .before .before .entry-written .result .row) ∙ l .inv .2,
-      l .inv .3
-          ∙ ap (ahead (s .limit - l .unspent) (l .i))
-          (burn-next job (s .count) (l .rows) (l .unspent) (l .i) (omega arith) (c .before .before .put2 .last .0) u (ap (λ (w : Written). w .pulses) written) next enough)
-          ∙ one-ahead (s .limit - l .unspent) (l .i) u _
-          ∙ ap (λ (n : ℕ). ahead n (l .i + 1) (rehearsed (c .before .before .put2 .last .0) (l .unspent - u) (entriesFrom job (l .i + 1) (s .count - (l .i + 1))))) spent,
+      ap length (c .before .before .before .before .before .before .put2 .ensures) ∙ length-set (l .rows) _ _ ∙ l .inv .2,
+      ap length (c .before .before .gain .ensures) ∙ length-set (l .tallies) _ _ ∙ l .inv .3,
+      rw (counted, ← spent) (one-ahead (now (s .tallies)) _ (l .tallies) (s .limit - l .unspent) (l .i) (entryAt job (l .i) .row gains u) _ burnt),
     )
 
-sub-t22 : tie.Need-sub-t22 Inv-loop μ-loop
-sub-t22 c = omega arith
+sub-t27 : tie.Need-sub-t27 Inv-loop μ-loop
+sub-t27 c = omega arith
 
-same-length-2 : tie.Need-same-length-2 Inv-loop μ-loop
-same-length-2 c = c .before .loop .inv .2
+same-length-3 : tie.Need-same-length-3 Inv-loop μ-loop
+same-length-3 c = c .before .loop .inv .2
+
+same-length-4 : tie.Need-same-length-4 Inv-loop μ-loop
+same-length-4 c = c .before .loop .inv .3
 
 returns-2 : tie.Need-returns-2 Inv-loop μ-loop
 returns-2 c =
-    let s = c .before .before .before .before .args in
+    let s = c .before .before .before .before .before .args in
     let l = c .before .loop in
-    let whole = l .inv .3 ∙ ap (ahead (s .limit - l .unspent) (l .i)) (burn-ends (now (s .job)) (s .count) (l .rows) (l .unspent) (l .i) (omega arith)) in
+    let ended = rw (burn-ends (now (s .job)) (s .count) (l .rows) (l .unspent) (l .i) (omega arith)) at (l .inv .4) in
     let all : l .i + 0 ≡ s .count = omega arith in (
-      sym (ap (λ (p : Progress). p .rows) whole),
-      sym (ap (λ (p : Progress). p .pulses) whole ∙ add-zero (s .limit - l .unspent)),
-      sym (ap (λ (p : Progress). p .place) whole ∙ all),
+      sym (ended .rows),
+      sym (ended .counted),
+      sym (ended .pulses ∙ add-zero (s .limit - l .unspent)),
+      sym (ended .place ∙ all),
     )
 
 pub rehearsed-spec : {M : Type 1} → statement M
@@ -141,12 +163,16 @@ rehearsed-spec =
     entry-written-requires
     burnt-upward-requires
     put-requires
+    cut-gained-requires
     same-length
+    same-length-2
     returns
     put-requires-2
+    gain-requires
     add-i
     loop-less
     loop-again
-    sub-t22
-    same-length-2
+    sub-t27
+    same-length-3
+    same-length-4
     returns-2)

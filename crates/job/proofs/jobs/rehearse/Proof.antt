@@ -22,6 +22,9 @@ returns c = (
   rw (← c .before .before .verdict-of .ensures, ne-eqb _ _ (c .before .if1 .taken)),
 )
 
+slice-aggregate-rehearsed : tie.Need-slice-aggregate-rehearsed
+slice-aggregate-rehearsed c = search needs
+
 count-of-requires : tie.Need-count-of-requires
 count-of-requires c κs = search needs
 
@@ -36,11 +39,12 @@ same-length-2 c = search needs
 
 returns-2 : tie.Need-returns-2
 unfolding rehearse
-returns-2 c = (
-  rw (← c .before .before .before .before .before .before .before .verdict-of .ensures, eq-eqb _ _ (c .before .before .before .before .before .before .if1 .left), ← c .before .before .before .before .count-of .ensures .0)
-      (simp (c .spent .ensures, c .before .before .before .rehearsed .ensures .1, c .before .before .before .rehearsed .ensures .2)),
-  rw (← c .before .before .before .before .before .before .before .verdict-of .ensures, eq-eqb _ _ (c .before .before .before .before .before .before .if1 .left), ← c .before .before .before .before .count-of .ensures .0) (c .before .before .before .rehearsed .ensures .0),
-)
+returns-2 c =
+    let accepted = eq-eqb _ _ (c .before .before .before .before .before .before .before .before .before .if1 .left) in
+    let reached = c .before .before .before .before .rehearsed .ensures in (
+      rw (← c .before .before .before .before .before .before .before .before .before .before .verdict-of .ensures, accepted, ← c .before .before .before .before .before .count-of .ensures .0) (simp (c .spent .ensures, reached .1, reached .2, reached .3)),
+      rw (← c .before .before .before .before .before .before .before .before .before .before .verdict-of .ensures, accepted, ← c .before .before .before .before .before .count-of .ensures .0) (reached .0),
+    )
 
 pub rehearse-spec : {M : Type 1} → statement M
 rehearse-spec =
@@ -50,6 +54,7 @@ rehearse-spec =
     refused-at-requires
     same-length
     returns
+    slice-aggregate-rehearsed
     count-of-requires
     rehearsed-requires
     spent-requires

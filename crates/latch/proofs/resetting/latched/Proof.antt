@@ -11,11 +11,14 @@ locks-of-requires c κs = search needs
 six-keys-requires : tie.Need-six-keys-requires
 six-keys-requires c κs = search needs
 
+tallies-of-requires : tie.Need-tallies-of-requires
+tallies-of-requires c κs = search needs
+
 returns : tie.Need-returns
 unfolding latched
 returns c =
-    let locks = c .before .before .before .before .before .before .before .locks-of .ensures in
-    simp (locks .0, locks .1, locks .2, locks .3, locks .4, locks .5, c .six-keys .ensures)
+    let locks = c .before .before .before .before .before .before .before .before .locks-of .ensures in
+    simp (locks .0, locks .1, locks .2, locks .3, locks .4, locks .5, c .before .six-keys .ensures, c .tallies-of .ensures)
 
 pub latched-spec : {M : Type 1} → statement M
-latched-spec = tie.close (tie.spec locks-of-requires six-keys-requires returns)
+latched-spec = tie.close (tie.spec locks-of-requires six-keys-requires tallies-of-requires returns)

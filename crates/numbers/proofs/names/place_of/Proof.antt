@@ -1,4 +1,4 @@
--- `numbers::names::place_of` is safe and ends: each turn counts `place` up to 18. Assumes nothing.
+-- `numbers::names::place_of` is safe and ends: each turn counts `place` up to 19. Assumes nothing.
 use Prim.Native.Nat.{_-_}
 use borrow.Author.Needs.{needs}
 use Rattle.numbers.proofs.names.place_of.Statement.{statement}
@@ -8,7 +8,7 @@ abbrev Inv-loop : tie.InvT-loop
 Inv-loop head names place₀ place = Unit
 
 abbrev μ-loop : tie.MeasureT-loop
-μ-loop head names place₀ place = 18 - place
+μ-loop head names place₀ place = 19 - place
 
 slice-aggregate-names : tie.Need-slice-aggregate-names Inv-loop μ-loop
 slice-aggregate-names c = search needs

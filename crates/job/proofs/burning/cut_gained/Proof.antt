@@ -1,0 +1,76 @@
+-- `job::burning::cut_gained` meets its contract. The invariant: what is counted so far, ahead of what is left, is all.
+-- Assumes nothing.
+use borrow.Author.Needs.{needs}
+use denote.Ref.{now}
+use mathlib.Core.List.{List}
+use mathlib.Core.Path.{_≡_, refl, sym, ap, _∙_}
+use Prim.Native.Nat.{ℕ, _+_, _-_}
+use native.Mathlib.Omega.{arith}
+use lib.ListN.{length, length-set}
+use Rattle.chip.specs.Tallies.{_gains_, withGain, withGains}
+use Rattle.form.specs.Entries.{entryAt, entriesFrom}
+use Rattle.form.specs.declared.entries.Entry.{Entry}
+use Rattle.job.specs.Burning.{cutGained}
+use Rattle.job.proofs.Ahead.{cut-next, cut-ends}
+use Rattle.job.proofs.burning.cut_gained.Statement.{statement}
+use Rattle.job.proofs.burning.cut_gained.Tie as tie
+
+abbrev Inv-loop : tie.InvT-loop
+Inv-loop tallies₀ job first count bits gained₀ i₀ tallies gained i =
+    (length tallies ≡ length tallies₀)
+    × (withGains tallies₀ (cutGained bits (entriesFrom job first (count - first)))
+    ≡ withGains tallies (cutGained gained (entriesFrom job i (count - i))))
+
+abbrev μ-loop : tie.MeasureT-loop
+μ-loop tallies₀ job first count bits gained₀ i₀ tallies gained i = count - i
+
+loop-holds : tie.Need-loop-holds Inv-loop μ-loop
+loop-holds c = (refl, refl)
+
+entry-at-requires : tie.Need-entry-at-requires Inv-loop μ-loop
+entry-at-requires c κs = search needs
+
+gain-requires : tie.Need-gain-requires Inv-loop μ-loop
+gain-requires c κs = search needs
+
+add-i : tie.Need-add-i Inv-loop μ-loop
+add-i c = omega arith
+
+loop-less : tie.Need-loop-less Inv-loop μ-loop
+loop-less c = omega arith
+
+loop-again : tie.Need-loop-again Inv-loop μ-loop
+loop-again c =
+    let s = c .before .before .before .before .before .before .before .before .before .args in
+    let job = now (s .job) in
+    let l = c .before .before .before .before .before .before .loop in
+    let named : c .before .before .gain .last .0 ≡ withGain (l .tallies) (entryAt job (l .i) .row gains l .gained) =
+    c .before .before .gain .ensures ∙ ap (λ (e : Entry). withGain (l .tallies) (e .row gains l .gained)) (c .before .before .before .entry-at .ensures) in (
+      ap length named ∙ length-set (l .tallies) _ _ ∙ l .inv .0,
+      l .inv .1 ∙ cut-next job (s .count) (l .tallies) (l .gained) (l .i) (omega arith)
+          ∙ ap (λ (tallies : List ℕ). withGains tallies (cutGained 0 (entriesFrom job (l .i + 1) (s .count - (l .i + 1))))) (sym named),
+    )
+
+same-length : tie.Need-same-length Inv-loop μ-loop
+same-length c = c .before .loop .inv .0
+
+returns : tie.Need-returns Inv-loop μ-loop
+returns c =
+    let s = c .before .before .before .before .args in
+    let l = c .before .loop in
+    sym (l .inv .1 ∙ cut-ends (now (s .job)) (s .count) (l .tallies) (l .gained) (l .i) (omega arith))
+
+pub cut-gained-spec : {M : Type 1} → statement M
+cut-gained-spec =
+    tie.close
+    (tie.spec
+    Inv-loop
+    μ-loop
+    loop-holds
+    entry-at-requires
+    gain-requires
+    add-i
+    loop-less
+    loop-again
+    same-length
+    returns)
