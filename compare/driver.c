@@ -5,7 +5,7 @@
  * between requests, blank at the start, so that a request holds only the entries that are to differ. All numbers are 32 bits, low
  * byte first; structs are as they lie in memory.
  *
- *     request     call, rows_len, count of entries, count of bytes, four arguments, the state (508 bytes), the entries (place,
+ *     request     call, rows_len, count of entries, count of bytes, four arguments, the state (636 bytes), the entries (place,
  *                 value), then the bytes of a key or a job
  *     reply       count of entries, the answer (32 bytes), the state if the call gives one back, then the entries (place, value)
  *                 that the call changed
@@ -48,13 +48,14 @@ typedef struct {
 } entry;
 
 /* What goes through the pipe has no gaps. */
-_Static_assert(sizeof(request) == 32 + 508, "size of request");
+_Static_assert(sizeof(request) == 32 + 636, "size of request");
 _Static_assert(sizeof(entry) == 8, "size of entry");
 _Static_assert(sizeof(otp_answer) == 32, "size of otp_answer");
-_Static_assert(sizeof(otp_state) == 508, "size of otp_state");
+_Static_assert(sizeof(otp_state) == 636, "size of otp_state");
 _Static_assert(offsetof(otp_state, bootloader) == 128, "place of the bootloader's levels");
 _Static_assert(offsetof(otp_state, keys) == 384 && sizeof(otp_key) == 18, "place and size of the keys");
 _Static_assert(offsetof(otp_state, entered) == 492, "place of the entered key");
+_Static_assert(offsetof(otp_state, tallies) == 508 && sizeof(((otp_state *)0)->tallies) == 128, "place and size of the tallies");
 
 /* The image, and the same before the call. Between calls the two are equal. */
 static uint32_t image[ENTRIES];

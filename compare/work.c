@@ -1,6 +1,6 @@
 /* Each call of libotp.a on one struct that holds all that it takes, for src/bin/timings/. The face takes the state by value, and a
    call that can change it gives it back by value, so each of these copies it in and, where it comes back, out: what any caller in C
-   does. The last two do nothing but that. */
+   does. The last two do nothing but that. Before them stands what a screen does with the state. */
 #include "otp.h"
 
 enum { ROWS = 4096, JOB = 7 + 6 * 512, KEY = 16 };
@@ -32,6 +32,8 @@ void work_show(work *w) { w->answer = otp_show(w->state, w->caller, w->domain, w
 void work_enter_key(work *w) { keep(w, otp_enter_key(w->state, w->caller, w->key, KEY)); }
 void work_run_job(work *w) { keep(w, otp_run_job(w->rows, ROWS, w->state, w->job, JOB)); }
 void work_rehearse(work *w) { keep(w, otp_rehearse(w->rows, ROWS, w->state, w->job, JOB, w->limit)); }
+
+void work_bits_burnt(work *w) { w->answer = (otp_answer){.value = w->state.tallies[w->page]}; }
 
 __attribute__((noinline)) otp_answer read_shape(otp_state state) { return (otp_answer){.value = state.secure[9]}; }
 __attribute__((noinline)) otp_outcome write_shape(otp_state state) { return (otp_outcome){.state = state}; }

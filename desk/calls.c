@@ -62,6 +62,7 @@ static void took(uint32_t kind, uint32_t caller)
 
 static void keep(uint32_t kind, uint32_t caller, otp_outcome outcome)
 {
+    tally_pages(kind, &outcome.answer, state.tallies, outcome.state.tallies);
     answer = outcome.answer;
     state = outcome.state;
     took(kind, caller);
@@ -204,6 +205,13 @@ static void any_state(void)
     }
 }
 
+/* Any tallies beside locks that came of a reset: most of the states above let nothing be burnt. */
+static void any_tallies(void)
+{
+    for (uint32_t page = 0; page < OTP_PAGES; page++)
+        state.tallies[page] = some_tally();
+}
+
 /* Puts a number from `least` up into some rows that are used often. */
 static void sprinkle(uint32_t count, uint32_t least)
 {
@@ -220,8 +228,8 @@ static void wear_often_used(void)
         wear(often_used());
 }
 
-/* A new chip: blank, then perhaps with a key, with locks, with stray bits, with rows of any bits, with entries that no chip has, or with
-   any state. */
+/* A new chip: blank, then perhaps with a key, with locks, with stray bits, with rows of any bits, with entries that no chip has, with any
+   tallies, or with any state. */
 static void new_chip(void)
 {
     otp_state start = OTP_START;
@@ -239,6 +247,8 @@ static void new_chip(void)
     keep(RESET, NO_CALLER, otp_reset(rows, OTP_ROWS, state));
     if (once_in(4))
         sprinkle(4, 0x1000000);
+    if (once_in(4))
+        any_tallies();
     if (once_in(8))
         any_state();
 }

@@ -66,6 +66,7 @@ static uint32_t some_domain(void) { return once_in(20) ? EDGE(3, 0x102, 0xffffff
 static uint32_t some_page(void) { return once_in(20) ? EDGE(OTP_PAGES, 0x100, 0xffffffff) : below(once_in(2) ? 4 : OTP_PAGES); }
 static uint32_t some_level(void) { return once_in(20) ? EDGE(3, 0xffffffff) : below(3); }
 static uint32_t some_raw(void) { return once_in(20) ? EDGE(0x1000000, 0xffffffff) : some_bits(); }
+static uint16_t some_tally(void) { return (uint16_t)(once_in(2) ? EDGE(0, 1520, 1535, 1536, 1537, 0xfff0, 0xffff) : chance()); }
 static uint32_t some_value(void) { return once_in(20) ? EDGE(0x10000, 0xffffffff) : chance() & 0xffff; }
 static uint64_t some_length(void) { return once_in(30) ? EDGE(0, OTP_ROWS - 1, OTP_ROWS + 1) : OTP_ROWS; }
 

@@ -1,6 +1,7 @@
 /* The instructions and the most stack that each call of libotp.a takes on a core of the desk, for docs/TIMINGS.md. Both are measured: the
    emulator counts the instructions, and the call is made once more on a stack of its own that was painted before. Each call is made by
    Secure, but for one read by the bootloader, and is done (number 0). What C does to pass the state and to take it back is part of the call.
+   The last two are no calls: how a screen comes by the bits burnt in a page of the board, with the tallies and without.
 
    The board: 512 rows burnt by a job, key 1 burnt and valid, one page behind it, and the key entered. The full chip: every row below
    0xf40 burnt, all six keys whole with a bit of each row worn away, every page locked and registered. */
@@ -54,6 +55,24 @@ static void enter_key(void) { KEEP(otp_enter_key(state, OTP_SECURE, key, OTP_KEY
 static void run_job(void) { KEEP(otp_run_job(rows, OTP_ROWS, state, job, JOB)); }
 static void rehearse(void) { KEEP(otp_rehearse(rows, OTP_ROWS, state, job, JOB, HALF_THE_PULSES)); }
 
+
+/* A screen's question, how many bits of a page are burnt: looked up, and as it would be counted without tallies. */
+static void burnt(uint32_t bits)
+{
+    answer.number = OTP_DONE;
+    answer.value = bits;
+}
+
+static void look_up(void) { burnt(state.tallies[KEYED_PAGE]); }
+
+static void count(void)
+{
+    uint32_t bits = 0;
+    for (uint32_t row = 0; row < OTP_PAGE_ROWS; row++)
+        bits += (uint32_t)__builtin_popcount(rows[OTP_PAGE_ROWS * KEYED_PAGE + row]);
+    burnt(bits);
+}
+
 static const struct {
     const char *name;
     void (*call)(void);
@@ -74,6 +93,8 @@ static const struct {
     {"enter a key", enter_key, board},
     {"run a job of 512", run_job, blank},
     {"rehearse 2,700 pulses", rehearse, blank},
+    {"bits burnt, looked up", look_up, board},
+    {"bits burnt, counted", count, board},
 };
 
 /* Every seventh row, ECC, with values that spread over the 16 bits. */

@@ -1,5 +1,6 @@
-/* What desk/calls.c counts: how often each call gave each number, how often each caller was done and was refused with 7, and how often an ECC
-   read said each condition. One that can be given and never was is an error, and so is a number that the call cannot give. */
+/* What desk/calls.c counts: how often each call gave each number, how often each caller was done and was refused with 7, how often an ECC
+   read said each condition, and how often a call that burns raised a page's tally, held one to a full page, or brought one down. One that can
+   be given and never was is an error, and so is a number that the call cannot give. */
 #ifndef TALLY_H
 #define TALLY_H
 
@@ -58,6 +59,42 @@ static void tally(uint32_t kind, uint32_t caller, const otp_answer *answer)
         said[i] += answer->condition == conditions[i].condition && answer->polarity == conditions[i].polarity;
 }
 
+/* What a call that burns can do to the tally of a page: raise it by the bits that are new, hold it to a full page where they are too many, or
+   bring it down to that. */
+enum { RAISED, HELD, LOWERED, CHANGES };
+static const char *const changes[CHANGES] = {"raised", "held to 1536", "brought down"};
+static uint32_t changed[KINDS][CHANGES];
+
+static bool burns(uint32_t kind) { return kind == WRITE_RAW || kind == WRITE_ECC || kind == RUN_JOB || kind == REHEARSE; }
+
+/* Counts what a call did. Where no tally came down and all together went up by less than the pulses, some page was held. */
+static void tally_pages(uint32_t kind, const otp_answer *answer, const uint16_t *before, const uint16_t *after)
+{
+    uint32_t raised = 0, lowered = 0;
+    if (!burns(kind))
+        return;
+    for (uint32_t page = 0; page < OTP_PAGES; page++) {
+        raised += after[page] > before[page] ? (uint32_t)(after[page] - before[page]) : 0;
+        lowered += after[page] < before[page];
+    }
+    changed[kind][RAISED] += raised != 0;
+    changed[kind][HELD] += lowered == 0 && raised < answer->pulses;
+    changed[kind][LOWERED] += lowered != 0;
+}
+
+/* How often a call that burns did each, and whether it did. */
+static bool told_changes(uint32_t kind)
+{
+    bool all = true;
+    printf("%-10s", kinds[kind].name);
+    for (uint32_t i = 0; i < CHANGES; i++) {
+        printf("   %s: %5u", changes[i], (unsigned)changed[kind][i]);
+        all = all && changed[kind][i] != 0;
+    }
+    printf("\n");
+    return all;
+}
+
 /* How often a call gave each number, and whether it gave all that it can and no other. */
 static bool told_numbers(uint32_t kind)
 {
@@ -103,8 +140,10 @@ static bool all_told(void)
         all = told_callers(kind) && all;
     for (uint32_t i = 0; i < CONDITIONS; i++)
         all = told_condition(i) && all;
+    for (uint32_t kind = 0; kind < KINDS; kind++)
+        all = (!burns(kind) || told_changes(kind)) && all;
     if (!all)
-        printf("a call never gave a number or a condition that it can give, or gave a number that it cannot\n");
+        printf("a call never gave a number or a condition that it can give, never changed a tally as it can, or gave a number that it cannot\n");
     return all;
 }
 

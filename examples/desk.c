@@ -1,9 +1,10 @@
 /*
  * desk.c: a first program over libotp.a, for the author of a desk's firmware.
  *
- * On an image of a blank chip it keeps a screen's width in a row, reads it with a worn bit and with a worn flag, and locks its page. On a
- * second blank chip it burns the bootloader's lock, so that a USB loader reads the width and cannot write it. On a third it rehearses a
- * job up to a power cut, and then runs it. It prints what happens, and exits 1 where that is not what document 01 and its requests say.
+ * On an image of a blank chip it keeps a screen's width in a row, shows how much of the page is burnt, reads the width with a worn bit and
+ * with a worn flag, and locks its page. On a second blank chip it burns the bootloader's lock, so that a USB loader reads the width and
+ * cannot write it. On a third it rehearses a job up to a power cut, and then runs it. It prints what happens, and exits 1 where that is not
+ * what document 01 and its requests say.
  *
  *     rt staticlib otp
  *     cc -std=c11 -Iinclude examples/desk.c target/staticlib/libotp.a -o target/desk
@@ -48,6 +49,13 @@ static otp_state write_width(otp_state state)
            (unsigned)out.answer.number, (unsigned)out.answer.pulses, (unsigned)rows[ROW]);
     expect("the number of the write", out.answer.number, OTP_DONE);
     return out.state;
+}
+
+/* What a screen shows of a page. The state that the last call gave back has it, and no row is counted. */
+static void show_burnt(otp_state state, uint32_t page, uint32_t bits)
+{
+    printf("page %u: %u of %d bits burnt\n", (unsigned)page, (unsigned)state.tallies[page], OTP_PAGE_BITS);
+    expect("the bits burnt", state.tallies[page], bits);
 }
 
 /* A row that is repaired or flag worn still has its value, and it is time to look at the board. One that is both has two wrong bits, and its
@@ -109,6 +117,7 @@ static void refused_write(otp_state state)
 static void keep_a_width(void)
 {
     otp_state state = write_width(blank_chip());
+    show_burnt(state, PAGE, 4);
     read_width(state, OTP_CLEAN, 0);
     rows[ROW] &= ~(UINT32_C(1) << 8);
     printf("bit 8 wears away\n");
@@ -121,6 +130,9 @@ static void keep_a_width(void)
 
 /* The high lock row of the page. Bits 5:4 of each of its three bytes are the bootloader's level, which no call advances: it is burnt. */
 enum { LOCK_ROW = 0xf81 + 2 * PAGE, LOCK_BOOTLOADER = OTP_READ_ONLY * 0x101010 };
+
+/* The page that the lock row itself is in: its bits count there, and not for the page that it locks. */
+enum { LOCK_ROWS_PAGE = LOCK_ROW / OTP_PAGE_ROWS };
 
 /* The bootloader reads and writes by its own level and by Secure's. */
 static void ask_as_bootloader(const char *when, otp_state state, uint32_t read, uint32_t write)
@@ -141,6 +153,8 @@ static void lock_for_the_bootloader(void)
     otp_state state = write_width(blank_chip());
     otp_outcome burnt = otp_write_raw(rows, OTP_ROWS, state, OTP_SECURE, LOCK_ROW, LOCK_BOOTLOADER);
     expect("the number of the lock's write", burnt.answer.number, OTP_DONE);
+    show_burnt(burnt.state, PAGE, 4);
+    show_burnt(burnt.state, LOCK_ROWS_PAGE, 3);
     otp_outcome again = otp_reset(rows, OTP_ROWS, burnt.state);
     ask_as_bootloader("its lock burnt, and reset", again.state, OTP_DONE, OTP_REFUSED_LOCK);
     read_width(again.state, OTP_CLEAN, 0);
@@ -169,9 +183,11 @@ static void run_a_job(void)
     otp_state state = blank_chip();
     otp_outcome cut = otp_rehearse(rows, OTP_ROWS, state, job, sizeof job, 2);
     job_came_to("job rehearsed to 2 pulses", cut.answer, 0, 2, 0x010001);
+    show_burnt(cut.state, PAGE, 2);
     otp_outcome again = otp_reset(rows, OTP_ROWS, cut.state);
     otp_outcome whole = otp_run_job(rows, OTP_ROWS, again.state, job, sizeof job);
     job_came_to("reset, and the job run", whole.answer, 1, 2, 0x230001);
+    show_burnt(whole.state, PAGE, 4);
 }
 
 int main(void)

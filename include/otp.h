@@ -21,8 +21,8 @@
  *           rehearsal burns them in place.
  * state     What the hardware latches at reset, by value. Begin with one of all zeros, `otp_state state = OTP_START;`, and otp_reset.
  *           It locks no page and holds no key, so call nothing else before that reset is done. A call that can change the state
- *           gives it back: keep that one. A write, a job or a rehearsal gives it back as it came, since what is burnt has no effect
- *           before the next reset. Any contents are allowed, if each bool is 0 or 1.
+ *           gives it back: keep that one. A write, a job or a rehearsal gives it back with nothing changed but the tallies, since what
+ *           is burnt has no other effect before the next reset. Any contents are allowed, if each bool is 0 or 1.
  * caller    OTP_SECURE, OTP_NONSECURE or OTP_BOOTLOADER. The library believes what it is told. The bootloader runs as Secure, so it may
  *           never do what Secure may not: its read needs its own level, Secure's and that of the keys to be at most OTP_READ_ONLY, and
  *           its write needs all three to be OTP_READ_WRITE.
@@ -39,6 +39,17 @@
  *
  * Any number but 0 is a refusal, and a refusal changes nothing: every row and the state are as they were. Its value, condition, bit,
  * polarity, disagree and pulses are 0, and so is its place, but for a job's 7, 3 and 9.
+ *
+ *
+ * How much of a page is burnt
+ *
+ * state.tallies[page] is the bits burnt in rows 64 * page to 64 * page + 63, from 0 to OTP_PAGE_BITS: a screen looks it up and counts
+ * nothing. It goes by row number for pages 62 and 63 too, and not by the page that a lock row locks. A reset counts every row. It is
+ * right from then on, as long as the rows change only through these calls; a caller who alters the rows by himself must reset.
+ *
+ * A write, a job or a rehearsal that is done leaves each page that it names at the lesser of OTP_PAGE_BITS and old plus new bits. It
+ * names a page if a row of that page is written or stands in the job, whether or not a bit of it is new, and whether or not a rehearsal
+ * came so far. It leaves all other pages as they were, and so do every refusal and every other call but a reset. Any tallies may come in.
  */
 #ifndef OTP_H
 #define OTP_H
@@ -62,10 +73,11 @@ extern "C" {
 #endif
 
 enum {
-    OTP_ROWS = 4096,    /* the rows of a chip, and the only length of rows that is not refused */
-    OTP_PAGES = 64,     /* its pages, each with a lock */
-    OTP_PAGE_ROWS = 64, /* the rows of a page */
-    OTP_KEY_BYTES = 16  /* the bytes of a key */
+    OTP_ROWS = 4096,      /* the rows of a chip, and the only length of rows that is not refused */
+    OTP_PAGES = 64,       /* its pages, each with a lock */
+    OTP_PAGE_ROWS = 64,   /* the rows of a page */
+    OTP_PAGE_BITS = 1536, /* the bits of a page, 24 in each row */
+    OTP_KEY_BYTES = 16    /* the bytes of a key */
 };
 
 /* Callers, and the domains of a lock: each caller has one. */
@@ -122,9 +134,9 @@ typedef struct {
     bool whole;        /* all eight rows decoded: without it the key matches nothing */
 } otp_key;
 
-/* What the hardware latches at reset, for each page of 64 rows, and the key that was entered since. Pages 62 and 63 are the lock rows: each
-   goes by the levels of the page that it locks, and by the keys of the page that it is in (erratum E28). It is aligned so that it is copied
-   by words. */
+/* What the hardware latches at reset, for each page of 64 rows, the key that was entered since, and each page's bits burnt. Pages 62 and 63 are
+   the lock rows: each goes by the levels of the page that it locks, and by the keys and the tally of the page that it is in (erratum E28 for
+   the keys). It is aligned so that it is copied by words. */
 typedef struct {
     OTP_ALIGNAS(4)
     uint8_t secure[OTP_PAGES];     /* the lock level for Secure; above OTP_NO_ACCESS counts as that, in each of the three domains */
@@ -135,6 +147,7 @@ typedef struct {
     bool nokey[OTP_PAGES];         /* where a key is registered and none matches: false is read only, true is no access */
     otp_key keys[6];               /* the keys */
     uint16_t entered[8];           /* the entered key; all zeros means that none is entered */
+    uint16_t tallies[OTP_PAGES];   /* the bits burnt in the page's 64 rows, by row number; any are allowed, above OTP_PAGE_BITS too */
 } otp_state;
 
 /* What a call that can change the state answers: the answer, and the state to go on with. */
@@ -175,7 +188,8 @@ OTP_NEXT(otp_state, writekey, readkey);
 OTP_NEXT(otp_state, readkey, nokey);
 OTP_NEXT(otp_state, nokey, keys);
 OTP_NEXT(otp_state, keys, entered);
-OTP_LAST(otp_state, entered);
+OTP_NEXT(otp_state, entered, tallies);
+OTP_LAST(otp_state, tallies);
 OTP_ASSERT(OTP_ALIGNOF(otp_state) == 4, "otp_state is not aligned to words");
 
 OTP_FIRST(otp_outcome, answer);
@@ -190,9 +204,9 @@ OTP_LAST(otp_outcome, state);
 #undef OTP_ALIGNAS
 #undef OTP_ASSERT
 
-/* Resets the chip: latches locks and keys from the rows, and forgets the entered key and the locks advanced since the last reset.
-   A burnt lock or key has no effect before this. It takes a state because a reset that is refused gives it back as it came; one that is
-   done goes by the rows alone. Numbers 0, 1, 3. */
+/* Resets the chip: latches locks and keys from the rows, counts the bits burnt in each page, and forgets the entered key and the locks
+   advanced since the last reset. A burnt lock or key has no effect before this. It takes a state because a reset that is refused gives it
+   back as it came; one that is done goes by the rows alone. Numbers 0, 1, 3. */
 otp_outcome otp_reset(const uint32_t *rows, uint64_t rows_len, otp_state state);
 
 /* Reads the 24 bits of a row as they are. Numbers 0, 1, 4, 2, 6, 7, 3. */

@@ -6,7 +6,8 @@ use crate::ladder::need;
 use crate::model::Model;
 use crate::permission::{may_read, may_write};
 use crate::row::{newly_set, vote};
-use crate::shape::{Answer, State, LARGEST, LOCK_ROWS, ROWS};
+use crate::shape::{Answer, Outcome, State, LARGEST, LOCK_ROWS, ROWS};
+use crate::tallies::{kept, Named};
 use crate::wear::{decoded, other, undecoded};
 
 impl Model {
@@ -88,12 +89,16 @@ impl Model {
         self.codes.polarity(value, old).ok_or(9)
     }
 
-    /// Leaves the new row and counts the bits newly set.
-    pub fn write(&self, rows: &mut [u32], row: u32, new: u32) -> Answer {
+    /// Leaves the new row, counts the bits newly set, and keeps the tally of the row's page.
+    pub fn write(&self, rows: &mut [u32], state: &State, row: u32, new: u32) -> Outcome {
         let old = rows[row as usize];
         rows[row as usize] = new;
         let counted = if self.has(Fault::PulsesOfTarget) { 0 } else { old };
         let burnt = Answer::burnt(0, newly_set(counted, new));
-        other(self.fault, Fault::WriteFlags, new, burnt)
+        let whole = new;
+        Outcome {
+            answer: other(self.fault, Fault::WriteFlags, new, burnt),
+            state: kept(self.fault, state, &[Named { row, old, new, whole }]),
+        }
     }
 }

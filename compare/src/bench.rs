@@ -80,7 +80,7 @@ impl<'a> Bench<'a> {
         Some(format!("rows[{row:#05x}]: library {theirs:#08x}, model {ours:#08x}"))
     }
 
-    /// What a row held before the call, and how the page of its levels and the page of its keys stood.
+    /// What a row held before the call, and how the page of its levels and the page of its keys and tally stood.
     fn setting(&self, row: u32) -> String {
         if row as usize >= ROWS {
             return String::new();
@@ -90,8 +90,8 @@ impl<'a> Bench<'a> {
         let levels = [state.secure[page], state.nonsecure[page], state.bootloader[page]];
         let (write, read, nokey) = (state.writekey[from], state.readkey[from], state.nokey[from]);
         format!(
-            " (the row held {:#08x}; page {page}: levels {levels:?}; page {from}: keys {write} {read}, no-key {nokey})",
-            self.theirs[row as usize]
+            " (the row held {:#08x}; page {page}: levels {levels:?}; page {from}: keys {write} {read}, no-key {nokey}, tally {})",
+            self.theirs[row as usize], state.tallies[from]
         )
     }
 

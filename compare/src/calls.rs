@@ -1,8 +1,10 @@
 //! The model behind the trait that the library is seen through: each call done, or refused and nothing changed.
 
 use crate::call::{Call, Chip};
+use crate::fault::Fault;
 use crate::model::Model;
 use crate::shape::{Answer, Outcome, State};
+use crate::tallies::{kept, Named};
 
 /// Done, with a new state.
 fn changed(state: State) -> Outcome {
@@ -23,10 +25,10 @@ impl Chip for Model {
             Call::ReadVote { caller, row, count } => self.vote(rows, &state, caller, row, count).map(value),
             Call::WriteRaw { caller, row, value } => self
                 .raw_write(rows, &state, caller, row, value)
-                .map(|new| kept(self.write(rows, row, new))),
+                .map(|new| self.write(rows, &state, row, new)),
             Call::WriteEcc { caller, row, value } => self
                 .ecc_write(rows, &state, caller, row, value)
-                .map(|new| kept(self.write(rows, row, new))),
+                .map(|new| self.write(rows, &state, row, new)),
             Call::Advance {
                 caller,
                 domain,
@@ -35,9 +37,30 @@ impl Chip for Model {
             } => self.advanced(&state, caller, domain, page, level).map(changed),
             Call::Show { caller, domain, page } => self.shown(&state, caller, domain, page).map(value),
             Call::EnterKey { caller, ref key } => self.entered(&state, caller, key).map(changed),
-            Call::RunJob { ref job } => Ok(kept(self.job(rows, &state, job, None))),
-            Call::Rehearse { limit, ref job } => Ok(kept(self.job(rows, &state, job, Some(limit)))),
+            Call::RunJob { ref job } => self.job(rows, &state, job, None),
+            Call::Rehearse { limit, ref job } => self.job(rows, &state, job, Some(limit)),
         };
-        done.unwrap_or_else(|number| kept(Answer::refused(number)))
+        done.unwrap_or_else(|number| Outcome {
+            answer: Answer::refused(number),
+            state: self.refused_state(call, rows, state),
+        })
+    }
+}
+
+impl Model {
+    /// The state that a refusal leaves: the one that came in. Faults let a refused raw write name its row's page.
+    fn refused_state(&self, call: &Call, rows: &[u32], state: State) -> State {
+        let counts = self.has(Fault::RefusedCounts);
+        match *call {
+            Call::WriteRaw { row, value, .. } if counts || self.has(Fault::RefusedLowers) => {
+                let Some(old) = rows.get(row as usize).copied() else {
+                    return state;
+                };
+                let new = if counts { old | value } else { old };
+                let whole = new;
+                kept(self.fault, &state, &[Named { row, old, new, whole }])
+            }
+            _ => state,
+        }
     }
 }

@@ -74,6 +74,23 @@ faults! {
     Caller3Allowed    "caller-3-allowed"    "caller 3 is allowed";
     Domain2Unshown    "domain-2-unshown"    "domain 2 is still 4";
     Domain3Allowed    "domain-3-allowed"    "domain 3 is allowed";
+    TallyByLockWord   "tally-by-lock-word"  "a lock row's new bits go to the page that its lock word locks";
+    ResetByLockWord   "reset-by-lock-word"  "reset counts a lock row in the page that its lock word locks";
+    RowTooFew         "row-too-few"         "reset counts a page's first 63 rows";
+    TalliesKept       "tallies-kept"        "reset keeps the tallies as they were";
+    RefusedCounts     "refused-counts"      "a refused write counts the bits that it would have set";
+    RefusedLowers     "refused-lowers"      "a refused write leaves its row's page at 1,536 at most";
+    CountAsJudged     "count-as-judged"     "a refused job counts the entries judged before";
+    JobOnFirstPage    "job-on-first-page"   "all new bits of a job go to its first entry's page";
+    RehearsalUncount  "rehearsal-uncounted" "a rehearsal counts nothing";
+    CutLeftOut        "cut-left-out"        "the bits of the entry that a limit cuts are not counted";
+    CutCountsWhole    "cut-counts-whole"    "a cut rehearsal counts what the whole job would burn";
+    CutUnnamed        "cut-unnamed"         "entries after the one that a limit cuts do not name their pages";
+    OldBitsCount      "old-bits-count"      "bits that were set before are counted again";
+    NoLimit           "no-limit"            "no tally is held to 1,536";
+    SumWraps          "sum-wraps"           "a tally and its new bits are added in 16 bits";
+    NamedAbove        "named-above"         "a named page without a new bit stays above 1,536";
+    OthersLowered     "others-lowered"      "a page that is not named comes down to 1,536 too";
 }
 
 /// The fault of a name.

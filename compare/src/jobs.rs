@@ -5,7 +5,8 @@ use crate::ladder::need;
 use crate::model::Model;
 use crate::permission::may_write;
 use crate::row::{bit, within};
-use crate::shape::{Answer, State, LARGEST, ROWS, SECURE};
+use crate::shape::{Answer, Outcome, State, LARGEST, ROWS, SECURE};
+use crate::tallies::{kept, Named};
 
 /// Rows from here up are no business of a job.
 pub const JOB_END: u32 = 0xf40;
@@ -80,29 +81,56 @@ impl Model {
     }
 
     /// Runs a job, or with a limit rehearses it.
-    pub fn job(&self, rows: &mut [u32], state: &State, job: &[u8], limit: Option<u32>) -> Answer {
-        let list = match self.accepted(rows, job) {
-            Ok(list) => list,
-            Err(number) => return Answer::refused(number),
-        };
+    pub fn job(&self, rows: &mut [u32], state: &State, job: &[u8], limit: Option<u32>) -> Result<Outcome, u32> {
+        let list = self.accepted(rows, job)?;
         let mut burns = Vec::new();
         for (place, entry) in list.iter().enumerate() {
             match self.judge(rows, state, entry) {
                 Ok(burn) => burns.push(burn),
-                Err(number) => {
-                    if self.has(Fault::BurnAsJudged) {
-                        self.burn(rows, &burns, limit);
-                    }
-                    return Answer {
-                        place: place as u32,
-                        ..Answer::refused(number)
-                    };
-                }
+                Err(number) => return Ok(self.refused_at(rows, state, &burns, limit, place as u32, number)),
             }
         }
+        let old: Vec<u32> = burns.iter().map(|burn| rows[burn.row]).collect();
+        let answer = self.burnt(rows, &burns, limit);
+        let state = match self.has(Fault::RehearsalUncount) && limit.is_some() {
+            true => *state,
+            false => kept(self.fault, state, &named(&burns, &old, rows)),
+        };
+        Ok(Outcome { answer, state })
+    }
+
+    /// The refusal of an entry: nothing is burnt and nothing is counted, also of the entries before it.
+    fn refused_at(
+        &self,
+        rows: &mut [u32],
+        state: &State,
+        judged: &[Burn],
+        limit: Option<u32>,
+        place: u32,
+        number: u32,
+    ) -> Outcome {
+        let mut state = *state;
+        if self.has(Fault::CountAsJudged) {
+            let old: Vec<u32> = judged.iter().map(|burn| rows[burn.row]).collect();
+            let mut as_if = rows.to_vec();
+            self.burn(&mut as_if, judged, limit);
+            state = kept(self.fault, &state, &named(judged, &old, &as_if));
+        }
+        if self.has(Fault::BurnAsJudged) {
+            self.burn(rows, judged, limit);
+        }
+        let answer = Answer {
+            place,
+            ..Answer::refused(number)
+        };
+        Outcome { answer, state }
+    }
+
+    /// Burns what was judged, and says how far that came.
+    fn burnt(&self, rows: &mut [u32], burns: &[Burn], limit: Option<u32>) -> Answer {
         let target: u32 = burns.iter().map(|burn| burn.bits.count_ones()).sum();
-        let (mut pulses, last) = self.burn(rows, &burns, limit);
-        let mut place = standing(rows, &burns);
+        let (mut pulses, last) = self.burn(rows, burns, limit);
+        let mut place = standing(rows, burns);
         if self.has(Fault::PulsesOfTarget) {
             pulses = target.min(limit.unwrap_or(target));
         }
@@ -140,6 +168,17 @@ impl Model {
         }
         (pulses, last)
     }
+}
+
+/// The rows that a job names: those of all its entries, with what they held before it and hold now.
+fn named(burns: &[Burn], old: &[u32], rows: &[u32]) -> Vec<Named> {
+    let each = burns.iter().zip(old).map(|(burn, old)| Named {
+        row: burn.row as u32,
+        old: *old,
+        new: rows[burn.row],
+        whole: old | burn.bits,
+    });
+    each.collect()
 }
 
 /// How many leading entries have all their bits standing.

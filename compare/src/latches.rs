@@ -6,6 +6,7 @@ use crate::ladder::need;
 use crate::locks::{latch, level};
 use crate::model::Model;
 use crate::shape::{State, BOOTLOADER, LARGEST, NONSECURE, ROWS, SECURE};
+use crate::tallies::filled;
 
 impl Model {
     pub fn latched(&self, rows: &[u32], before: &State) -> Result<State, u32> {
@@ -17,6 +18,10 @@ impl Model {
         }
         for k in 1..=6 {
             state.keys[k as usize - 1] = latch_key(self.fault, &self.codes, rows, k);
+        }
+        state.tallies = filled(self.fault, rows);
+        if self.has(Fault::TalliesKept) {
+            state.tallies = before.tallies;
         }
         if self.has(Fault::EnteredKept) {
             state.entered = before.entered;

@@ -1,8 +1,8 @@
 //! A second reading of document 01, and the means to compare it with the library.
 //!
 //! `call` has the list of the calls and `shape` the fields of what goes into them and comes back.
-//! The model goes in one line, from the row up: `row`, `code`, `wear`, `locks`, `keys`, `permission`, `model`, `access`,
-//! `latches`, `jobs`, `calls`. Each uses only those before it, and what has no rule in it; `tests/line.rs` sees to it.
+//! The model goes in one line, from the row up: `row`, `code`, `wear`, `locks`, `tallies`, `keys`, `permission`,
+//! `model`, `access`, `latches`, `jobs`, `calls`. Each uses only those before it, and what has no rule in it; `tests/line.rs` sees to it.
 //! The library is in `face`, behind the child process of `driver`.
 //! `plain` is for timings alone, and is not there when the comparison is built.
 //! Everything else draws calls, makes them on both sides and compares what comes back.
@@ -23,6 +23,7 @@ pub mod locks;
 pub mod model;
 pub mod permission;
 pub mod row;
+pub mod tallies;
 pub mod wear;
 
 #[cfg(any(feature = "timings", feature = "self-test"))]
@@ -41,11 +42,13 @@ pub mod bench;
 pub mod callers;
 pub mod counts;
 pub mod every;
+pub mod every_tally;
 pub mod images;
 pub mod jobfiles;
 pub mod lock_bytes;
 pub mod lock_rows;
 pub mod random;
+pub mod recount;
 pub mod run;
 pub mod sequences;
 pub mod states;

@@ -6,8 +6,10 @@ use crate::call::{Call, Chip};
 use crate::code::Codes;
 use crate::images::{too_large, Image};
 use crate::jobfiles;
+use crate::jobs::Entry;
 use crate::locks::{key_page, owner};
 use crate::random::Random;
+use crate::recount::tallies_are_right;
 use crate::sequences;
 use crate::shape::{State, ROWS};
 use crate::states;
@@ -29,7 +31,18 @@ pub fn run(bench: &mut Bench, codes: &Codes, sound: &dyn Chip, calls: u64, seed:
     Ok(())
 }
 
-/// One image and its calls. Natural episodes have no state but what reset and the calls make.
+/// What an episode's state and rows come from.
+#[derive(Clone, Copy, PartialEq)]
+enum Made {
+    /// A state drawn, and rows that are changed between calls.
+    ByHand,
+    /// No state but what reset and the calls make, and such rows.
+    Natural,
+    /// No state but what a done reset and the calls make, and no row changed but by calls: then each tally equals a recount.
+    ByCalls,
+}
+
+/// One image and its calls.
 fn episode(
     random: &mut Random,
     bench: &mut Bench,
@@ -37,36 +50,38 @@ fn episode(
     sound: &dyn Chip,
     calls: u64,
 ) -> Result<(), Difference> {
-    let whole = random.coin();
+    let made = random.pick(&[Made::ByHand, Made::ByHand, Made::ByHand, Made::Natural, Made::ByCalls]);
+    let whole = random.coin() || made == Made::ByCalls;
     let image = Image::new(random, codes, whole);
-    let natural = random.once_in(3);
     bench.load(&image.rows);
-    bench.state = if natural {
-        State::blank()
-    } else {
-        states::by_hand(random, &image)
-    };
+    bench.state = states::by_hand(random, &image);
+    if made == Made::Natural {
+        bench.state = State::blank();
+    }
     for turn in 0..calls {
-        let call = match natural && turn == 0 {
+        let call = match made != Made::ByHand && turn == 0 {
             true => Call::Reset {},
-            false => draw(random, bench, &image, codes, sound),
+            false => draw(random, bench, &image, codes, sound, made),
         };
-        if let Some((first, count)) = call.rows() {
-            stir(random, bench, &image, codes, natural, first, count);
-        }
-        let length = if call.takes_rows() {
-            arguments::length(random)
-        } else {
-            ROWS
+        stir(random, bench, &image, codes, made, &call);
+        let length = match call.takes_rows() && (turn > 0 || made != Made::ByCalls) {
+            true => arguments::length(random),
+            false => ROWS,
         };
         bench.call_with(&call, length)?;
+        if made == Made::ByCalls {
+            tallies_are_right(bench, &call.to_string())?;
+        }
     }
     Ok(())
 }
 
 /// Before a call that names rows: now and then other entries in them, and other settings of a page that one goes by.
-fn stir(random: &mut Random, bench: &mut Bench, image: &Image, codes: &Codes, natural: bool, first: u32, count: u32) {
-    if first >= ROWS as u32 {
+fn stir(random: &mut Random, bench: &mut Bench, image: &Image, codes: &Codes, made: Made, call: &Call) {
+    let Some((first, count)) = call.rows().filter(|(first, _)| *first < ROWS as u32) else {
+        return;
+    };
+    if made == Made::ByCalls {
         return;
     }
     let share = random.below(4);
@@ -79,14 +94,14 @@ fn stir(random: &mut Random, bench: &mut Bench, image: &Image, codes: &Codes, na
     if random.once_in(48) && row < ROWS as u32 {
         bench.put(row, too_large(random));
     }
-    if !natural && random.once_in(3) && row < ROWS as u32 {
+    if made == Made::ByHand && random.once_in(3) && row < ROWS as u32 {
         let page = random.pick(&[owner(row), key_page(None, row)]);
         states::change_page(random, image, &mut bench.state, page);
     }
 }
 
 /// Draws a call; those that cost most come up least. A call that is missing here is one that the counts find missing.
-fn draw(random: &mut Random, bench: &mut Bench, image: &Image, codes: &Codes, sound: &dyn Chip) -> Call {
+fn draw(random: &mut Random, bench: &mut Bench, image: &Image, codes: &Codes, sound: &dyn Chip, made: Made) -> Call {
     let caller = arguments::caller(random);
     let row = arguments::row(random, image);
     match random.below(100) {
@@ -123,20 +138,27 @@ fn draw(random: &mut Random, bench: &mut Bench, image: &Image, codes: &Codes, so
             caller,
             key: arguments::key(random, image),
         },
-        _ => job(random, bench, image, codes, sound),
+        _ => job(random, bench, image, codes, sound, made),
     }
 }
 
-/// Draws a job or a rehearsal, and now and then other entries in the rows that it names.
-fn job(random: &mut Random, bench: &mut Bench, image: &Image, codes: &Codes, sound: &dyn Chip) -> Call {
-    let entries = jobfiles::entries(random, image);
+/// Before a job: now and then other entries in the rows that it names.
+fn stir_job(random: &mut Random, bench: &mut Bench, image: &Image, codes: &Codes, entries: &[Entry]) {
     let share = if entries.len() > 12 { 0 } else { random.below(4) };
-    for entry in &entries {
+    for entry in entries {
         if random.below(6) < share {
             bench.put(entry.row, image.entry(random, codes));
         } else if share == 3 && random.once_in(12) {
             bench.put(entry.row, too_large(random));
         }
+    }
+}
+
+/// Draws a job or a rehearsal.
+fn job(random: &mut Random, bench: &mut Bench, image: &Image, codes: &Codes, sound: &dyn Chip, made: Made) -> Call {
+    let entries = jobfiles::entries(random, image);
+    if made != Made::ByCalls {
+        stir_job(random, bench, image, codes, &entries);
     }
     let job = jobfiles::file(random, &entries);
     if random.once_in(3) {

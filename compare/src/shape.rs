@@ -4,6 +4,10 @@ use crate::part::{shape, Part};
 
 /// How many rows a chip has.
 pub const ROWS: usize = 4096;
+/// How many pages it has, the rows of a page, and the bits of those rows.
+pub const PAGES: usize = 64;
+pub const PAGE_ROWS: usize = 64;
+pub const PAGE_BITS: u32 = 1536;
 /// The largest number that 24 bits hold.
 pub const LARGEST: u32 = 0xff_ffff;
 /// The first row that holds a lock word.
@@ -89,11 +93,12 @@ shape! {
         nokey: [bool; 64],
         keys: [Key; 6],
         entered: [u16; 8],
+        tallies: [u16; PAGES],
     }
 }
 
 impl State {
-    /// No lock, no key, nothing entered.
+    /// No lock, no key, nothing entered, nothing burnt.
     pub fn blank() -> State {
         State::default()
     }

@@ -3,7 +3,8 @@
 
 use crate::images::Image;
 use crate::random::Random;
-use crate::shape::{Key, State};
+use crate::recount::recount;
+use crate::shape::{Key, State, PAGES, PAGE_BITS};
 
 fn level(random: &mut Random) -> u8 {
     random.pick(&[0, 0, 0, 0, 0, 0, 1, 1, 2, 3, 4, 5, 128, 255])
@@ -25,7 +26,19 @@ fn key(random: &mut Random, image: &Image) -> Key {
     }
 }
 
-/// One page's locks and key settings. Every field is named, so that the compiler asks here for a new one.
+/// Tallies at and around the most that a page can have, and around none.
+pub const TALLIES: [u16; 9] = [0, 1, 700, 1535, 1536, 1537, 1560, 65512, 65535];
+
+fn tally(random: &mut Random) -> u16 {
+    match random.below(4) {
+        0 => random.below(PAGE_BITS) as u16,
+        1 => random.number() as u16,
+        2 => PAGE_BITS as u16 - random.below(24) as u16,
+        _ => random.pick(&TALLIES),
+    }
+}
+
+/// One page's locks, key settings and tally. Every field is named, so that the compiler asks here for a new one.
 fn set_page(random: &mut Random, state: &mut State, page: usize) {
     let State {
         secure,
@@ -36,6 +49,7 @@ fn set_page(random: &mut Random, state: &mut State, page: usize) {
         nokey,
         keys: _,
         entered: _,
+        tallies,
     } = state;
     secure[page] = level(random);
     nonsecure[page] = level(random);
@@ -43,6 +57,7 @@ fn set_page(random: &mut Random, state: &mut State, page: usize) {
     writekey[page] = index(random);
     readkey[page] = index(random);
     nokey[page] = random.coin();
+    tallies[page] = tally(random);
 }
 
 const ENTERED: [u16; 8] = [0x1234; 8];
@@ -78,9 +93,13 @@ pub fn set_levels(state: &mut State, page: usize, [secure, nonsecure, bootloader
     state.bootloader[page] = bootloader;
 }
 
-/// A whole state drawn, with few pages locked or many.
+/// A whole state drawn, with few pages locked or many, and with the image's own tallies on the others or with any.
 pub fn by_hand(random: &mut Random, image: &Image) -> State {
     let mut state = State::blank();
+    state.tallies = match random.coin() {
+        true => recount(&image.rows),
+        false => [0; PAGES].map(|_| tally(random)),
+    };
     let share = random.pick(&[1, 1, 2, 4, 8]);
     for page in 0..64 {
         if random.below(8) < share {
@@ -94,7 +113,7 @@ pub fn by_hand(random: &mut Random, image: &Image) -> State {
     state
 }
 
-/// Sets one page's locks and key settings anew, and now and then the key behind them.
+/// Sets one page's locks, key settings and tally anew, and now and then the key behind them.
 pub fn change_page(random: &mut Random, image: &Image, state: &mut State, page: usize) {
     set_page(random, state, page);
     if random.coin() {

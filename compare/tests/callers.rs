@@ -209,6 +209,7 @@ fn reset_latches_three_levels_of_every_byte() {
         state.nonsecure[PAGE] = level[byte / 4 % 4];
         state.bootloader[PAGE] = level[byte / 16 % 4];
         state.keys.iter_mut().for_each(|key| key.whole = true);
+        state.tallies[62] = 3 * (byte as u8).count_ones() as u16;
         assert_eq!(
             make(&Call::Reset {}, &mut rows, State::blank()).state,
             state,

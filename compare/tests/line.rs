@@ -2,7 +2,7 @@
 
 use std::fs;
 
-const LINE: [&str; 16] = [
+const LINE: [&str; 17] = [
     "part",
     "shape",
     "call",
@@ -12,6 +12,7 @@ const LINE: [&str; 16] = [
     "code",
     "wear",
     "locks",
+    "tallies",
     "keys",
     "permission",
     "model",

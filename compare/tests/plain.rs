@@ -17,8 +17,8 @@ impl Chip for Plain {
             Call::ReadRaw { caller, row } => access::read_raw(rows, &state, caller, row),
             Call::ReadEcc { caller, row } => access::read_ecc(rows, &state, caller, row),
             Call::ReadVote { caller, row, count } => access::read_vote(rows, &state, caller, row, count),
-            Call::WriteRaw { caller, row, value } => access::write_raw(rows, &state, caller, row, value),
-            Call::WriteEcc { caller, row, value } => access::write_ecc(rows, &state, caller, row, value),
+            Call::WriteRaw { caller, row, value } => access::write_raw(rows, &mut state, caller, row, value),
+            Call::WriteEcc { caller, row, value } => access::write_ecc(rows, &mut state, caller, row, value),
             Call::Advance {
                 caller,
                 domain,
@@ -27,8 +27,8 @@ impl Chip for Plain {
             } => chip::advance(&mut state, caller, domain, page, level),
             Call::Show { caller, domain, page } => chip::show(&state, caller, domain, page),
             Call::EnterKey { caller, ref key } => chip::enter_key(&mut state, caller, key),
-            Call::RunJob { ref job } => jobs::run_job(rows, &state, job),
-            Call::Rehearse { limit, ref job } => jobs::rehearse(rows, &state, job, limit),
+            Call::RunJob { ref job } => jobs::run_job(rows, &mut state, job),
+            Call::Rehearse { limit, ref job } => jobs::rehearse(rows, &mut state, job, limit),
         };
         Outcome { answer, state }
     }

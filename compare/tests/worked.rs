@@ -28,8 +28,15 @@ fn write(model: &Model, value: u32, entry: u32) -> (Answer, u32) {
         value,
     };
     let outcome = model.make(&call, &mut rows, State::blank());
-    assert_eq!(outcome.state, State::blank());
+    assert_eq!(outcome.state, counted(outcome.answer.pulses));
     (outcome.answer, rows[ROW as usize])
+}
+
+/// What burning changes of a blank state: the tally of the row's page, by so many pulses.
+fn counted(pulses: u32) -> State {
+    let mut state = State::blank();
+    state.tallies[3] = pulses as u16;
+    state
 }
 
 fn clean(value: u32) -> Answer {
@@ -78,7 +85,7 @@ fn the_job_on_a_blank_page_makes_four_pulses() {
     let mut rows = chip(0);
     let outcome = model.make(&whole_job(), &mut rows, State::blank());
     assert_eq!(outcome.answer, Answer::burnt(1, 4));
-    assert_eq!(outcome.state, State::blank());
+    assert_eq!(outcome.state, counted(4));
     assert_eq!(rows, chip(0x230001));
 }
 

@@ -7,6 +7,7 @@
 //!     compare --every-write                   every value written with ECC over near-blank rows
 //!     compare --lock-rows                     every lock row written, by the keys and levels of its word and of pages 62 and 63
 //!     compare --callers                       every caller in every domain and at every level, and every byte of a lock row latched
+//!     compare --tallies                       tallies of every kind before every call: each row written and counted, jobs cut at every pulse
 //!
 //! The command of the driver, its words parted by spaces, stands in OTP_DRIVER, or as the first argument of all.
 //!
@@ -19,6 +20,7 @@ use compare::bench::{Bench, Difference};
 use compare::call::Chip;
 use compare::callers::every_caller;
 use compare::every::{every_read, every_write};
+use compare::every_tally::every_tally;
 use compare::face::{self, Library};
 use compare::fault::{named, Fault, FAULTS};
 use compare::lock_bytes::every_lock_byte;
@@ -34,6 +36,7 @@ enum Mode {
     EveryWrite,
     LockRows,
     Callers,
+    Tallies,
 }
 
 struct Wish {
@@ -67,6 +70,7 @@ fn wish() -> Result<Wish, String> {
             "--every-write" => wish.mode = Mode::EveryWrite,
             "--lock-rows" => wish.mode = Mode::LockRows,
             "--callers" => wish.mode = Mode::Callers,
+            "--tallies" => wish.mode = Mode::Tallies,
             _ => numbers.push(word.parse::<u64>().map_err(|_| format!("not understood: '{word}'"))?),
         }
     }
@@ -130,7 +134,7 @@ fn every(
 /// Makes calls on a bench, the same ones each time.
 type Calls = fn(&mut Bench) -> Result<(), Difference>;
 
-/// Every lock row, or every caller: one list of calls after another, on one bench.
+/// Every lock row, every caller, or every tally: one list of calls after another, on one bench.
 fn all_of(calls: &[Calls], wish: &Wish, library: &Library, sound: &Model) -> Result<(), String> {
     let model = wish.fault.map_or(sound.clone(), Model::faulty);
     let mut bench = Bench::new(library, &model);
@@ -165,6 +169,7 @@ fn main() -> ExitCode {
         Mode::EveryWrite => every(every_write, &wish, &library, &sound),
         Mode::LockRows => all_of(&[every_lock_row], &wish, &library, &sound),
         Mode::Callers => all_of(&[every_caller, every_lock_byte], &wish, &library, &sound),
+        Mode::Tallies => all_of(&[every_tally], &wish, &library, &sound),
     };
     match done {
         Ok(()) => ExitCode::SUCCESS,

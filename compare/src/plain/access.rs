@@ -1,6 +1,7 @@
 //! For timings alone: the calls on a row or a vote group.
 
 use crate::plain::chip::{hidden, may_read, may_write, LAST_CALLER};
+use crate::plain::tallies::gain;
 use crate::plain::{answer, refuse_if, row as one, Refusal};
 use crate::shape::{Answer, State, LARGEST, LOCK_ROWS, ROWS};
 
@@ -51,25 +52,31 @@ fn voted(rows: &[u32], state: &State, caller: u32, row: u32, count: u32) -> Resu
     Ok(Answer::value(one::vote(&gathered[..count as usize], threshold)))
 }
 
-pub fn write_raw(rows: &mut [u32], state: &State, caller: u32, row: u32, value: u32) -> Answer {
+/// Burns a row, and counts its new bits.
+fn burnt(rows: &mut [u32], state: &mut State, row: u32, new: u32) -> Answer {
+    let pulses = one::pulses(rows[row as usize], new);
+    rows[row as usize] = new;
+    gain(state, row, pulses);
+    Answer::burnt(0, pulses)
+}
+
+pub fn write_raw(rows: &mut [u32], state: &mut State, caller: u32, row: u32, value: u32) -> Answer {
     answer(raw_written(rows, state, caller, row, value))
 }
 
-fn raw_written(rows: &mut [u32], state: &State, caller: u32, row: u32, value: u32) -> Result<Answer, Refusal> {
+fn raw_written(rows: &mut [u32], state: &mut State, caller: u32, row: u32, value: u32) -> Result<Answer, Refusal> {
     asked(rows, caller, row, false, value > LARGEST)?;
     let old = entry(rows, state, may_write(state, caller, row), row)?;
-    rows[row as usize] = old | value;
-    Ok(Answer::burnt(0, one::pulses(old, value)))
+    Ok(burnt(rows, state, row, old | value))
 }
 
-pub fn write_ecc(rows: &mut [u32], state: &State, caller: u32, row: u32, value: u32) -> Answer {
+pub fn write_ecc(rows: &mut [u32], state: &mut State, caller: u32, row: u32, value: u32) -> Answer {
     answer(ecc_written(rows, state, caller, row, value))
 }
 
-fn ecc_written(rows: &mut [u32], state: &State, caller: u32, row: u32, value: u32) -> Result<Answer, Refusal> {
+fn ecc_written(rows: &mut [u32], state: &mut State, caller: u32, row: u32, value: u32) -> Result<Answer, Refusal> {
     asked(rows, caller, row, true, value > 0xffff)?;
     let old = entry(rows, state, may_write(state, caller, row), row)?;
     let new = one::written(old, value as u16)?;
-    rows[row as usize] = new;
-    Ok(Answer::burnt(0, one::pulses(old, new)))
+    Ok(burnt(rows, state, row, new))
 }

@@ -1,6 +1,6 @@
 //! For timings alone: the state, with reset, locks, keys, and who may read and write a row.
 
-use crate::plain::{answer, refuse_if, row, Refusal};
+use crate::plain::{answer, refuse_if, row, tallies, Refusal};
 use crate::shape::{Answer, Key, State, BOOTLOADER, LARGEST, LOCK_ROWS, NONSECURE, ROWS, SECURE};
 
 const KEY_ROWS: usize = 0xf48;
@@ -52,6 +52,7 @@ fn latched(rows: &[u32]) -> Result<State, Refusal> {
     for (i, key) in state.keys.iter_mut().enumerate() {
         *key = latched_key(&rows[KEY_ROWS + 8 * i..][..8], rows[FLAG_ROWS + i]);
     }
+    state.tallies = tallies::counted(rows);
     Ok(state)
 }
 

@@ -1,6 +1,7 @@
 //! For timings alone: jobs, judged whole, then burnt, to the end or to a limit.
 
 use crate::plain::chip::may_write;
+use crate::plain::tallies::gain;
 use crate::plain::{answer, refuse_if, row as one, Refusal};
 use crate::shape::{Answer, State, LARGEST, ROWS, SECURE};
 
@@ -88,25 +89,30 @@ fn burnt_upward(old: u32, new: u32, pulses: u32) -> u32 {
     row
 }
 
-fn burn(rows: &mut [u32], job: &[u8], limit: u32) -> Result<Answer, Refusal> {
+/// Burns the entries in order up to the limit, and counts the new bits of each; those after it are named, and gain none.
+fn burn(rows: &mut [u32], state: &mut State, job: &[u8], limit: u32) -> Result<Answer, Refusal> {
     let mut left = limit;
     let mut place = 0;
-    for entry in entries(job) {
+    let mut entries = entries(job);
+    while let Some(entry) = entries.next() {
         let row = &mut rows[entry.row as usize];
         let new = entry.written(*row)?;
         let pulses = one::pulses(*row, new);
         if left < pulses {
             *row = burnt_upward(*row, new, left);
+            gain(state, entry.row, left);
+            entries.for_each(|later| gain(state, later.row, 0));
             return Ok(Answer::burnt(place, limit));
         }
         *row = new;
+        gain(state, entry.row, pulses);
         left -= pulses;
         place += 1;
     }
     Ok(Answer::burnt(place, limit - left))
 }
 
-pub fn rehearse(rows: &mut [u32], state: &State, job: &[u8], limit: u32) -> Answer {
+pub fn rehearse(rows: &mut [u32], state: &mut State, job: &[u8], limit: u32) -> Answer {
     if rows.len() != ROWS {
         return Answer::refused(1);
     }
@@ -117,11 +123,11 @@ pub fn rehearse(rows: &mut [u32], state: &State, job: &[u8], limit: u32) -> Answ
         return Answer::refused(11);
     }
     match judge_all(rows, state, job) {
-        Ok(()) => answer(burn(rows, job, limit)),
+        Ok(()) => answer(burn(rows, state, job, limit)),
         Err(refused) => refused,
     }
 }
 
-pub fn run_job(rows: &mut [u32], state: &State, job: &[u8]) -> Answer {
+pub fn run_job(rows: &mut [u32], state: &mut State, job: &[u8]) -> Answer {
     rehearse(rows, state, job, u32::MAX)
 }

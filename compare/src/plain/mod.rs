@@ -10,6 +10,7 @@ pub mod access;
 pub mod chip;
 pub mod jobs;
 pub mod row;
+pub mod tallies;
 
 /// The number of a refusal.
 pub type Refusal = u32;

@@ -1,6 +1,9 @@
 //! How long each call takes: the library's beside the same rules written plainly in Rust with references, on the same
 //! work; and how long a call takes that only has the shape of one.
 //!
+//! The last is no call but a screen's question, how many bits of a page are burnt: looked up in the state that the library gave
+//! back, beside the page's 64 rows counted in plain Rust.
+//!
 //! Each call is made on a board of 512 burnt rows, one page of it behind a key that is entered, by Secure but for one read
 //! by the bootloader, and is done. Before it is timed both sides make it once, and answer, state and rows must be the same.
 //! `.ci/timings` builds and runs this.
@@ -20,7 +23,7 @@ type Plain = fn(&mut Work);
 /// A call: its name, how often it can be made on one work, what it needs of the work, and its two sides.
 struct Timed(&'static str, u32, fn(&mut Work), Library, Plain);
 
-const CALLS: [Timed; 15] = [
+const CALLS: [Timed; 16] = [
     Timed("reset", MANY, as_it_is, work_reset, reset),
     Timed("reset with six keys", MANY, burn_worn_keys, work_reset, reset),
     Timed("read raw", MANY, as_it_is, work_read_raw, read_raw),
@@ -36,6 +39,7 @@ const CALLS: [Timed; 15] = [
     Timed("enter a key", MANY, as_it_is, work_enter_key, enter_key),
     Timed("run a job of 512", ONCE, blank_rows, work_run_job, run_job),
     Timed("rehearse 2,700 pulses", ONCE, blank_rows, work_rehearse, rehearse),
+    Timed("bits burnt in a page", MANY, as_it_is, work_bits_burnt, bits_burnt),
 ];
 
 /// Calls that take the state as a read does, or take it and give it back as a write does, and do nothing else.

@@ -1,6 +1,6 @@
 //! What the timed calls are made on, and the calls on both sides.
 
-use compare::plain::{access, chip, jobs, row};
+use compare::plain::{access, chip, jobs, row, tallies};
 use compare::shape::{Answer, State, ROWS, SECURE};
 
 const ENTRIES: usize = 512;
@@ -55,13 +55,14 @@ sides! {
     work_read_raw, read_raw(w) => access::read_raw(&w.rows, &w.state, w.caller, w.row);
     work_read_ecc, read_ecc(w) => access::read_ecc(&w.rows, &w.state, w.caller, w.row);
     work_read_vote, read_vote(w) => access::read_vote(&w.rows, &w.state, w.caller, w.row, w.count);
-    work_write_raw, write_raw(w) => access::write_raw(&mut w.rows, &w.state, w.caller, w.row, w.value);
-    work_write_ecc, write_ecc(w) => access::write_ecc(&mut w.rows, &w.state, w.caller, w.row, w.value);
+    work_write_raw, write_raw(w) => access::write_raw(&mut w.rows, &mut w.state, w.caller, w.row, w.value);
+    work_write_ecc, write_ecc(w) => access::write_ecc(&mut w.rows, &mut w.state, w.caller, w.row, w.value);
     work_advance, advance(w) => chip::advance(&mut w.state, w.caller, w.domain, w.page, w.level);
     work_show, show(w) => chip::show(&w.state, w.caller, w.domain, w.page);
     work_enter_key, enter_key(w) => chip::enter_key(&mut w.state, w.caller, &w.key);
-    work_run_job, run_job(w) => jobs::run_job(&mut w.rows, &w.state, &w.job);
-    work_rehearse, rehearse(w) => jobs::rehearse(&mut w.rows, &w.state, &w.job, w.limit);
+    work_run_job, run_job(w) => jobs::run_job(&mut w.rows, &mut w.state, &w.job);
+    work_rehearse, rehearse(w) => jobs::rehearse(&mut w.rows, &mut w.state, &w.job, w.limit);
+    work_bits_burnt, bits_burnt(w) => tallies::count_page(&w.rows, w.page);
 }
 
 /// Every seventh row, ECC, with values that spread over the 16 bits.
