@@ -5,12 +5,14 @@ use crate::print;
 fn on_an_image() {
     print::line(b"./otp rehearse IMAGE JOB [LIMIT] [--key HEX32] [--save OUT [--replace]]");
     print::line(
-        b"    Judges the job, burns it into a copy of the image, and shows what changes, row by row.",
+        b"    Judges the job, burns it into a copy of the image, and shows what changes, row by row, and how",
     );
     print::line(
-        b"    LIMIT stops it after so many pulses. --save writes the image as the job leaves it,",
+        b"    many bits each page gains. LIMIT stops it after so many pulses. --save writes the image as the",
     );
-    print::line(b"    never over the image or the job, and over another file only with --replace.");
+    print::line(
+        b"    job leaves it, never over the image or the job, and over another file only with --replace.",
+    );
     print::line(
         b"./otp read IMAGE ROW [--raw | --vote 3 | --vote 8] [--as CALLER | --non-secure] [--key HEX32]",
     );
@@ -26,7 +28,10 @@ fn on_an_image() {
     );
     print::line(b"./otp pages IMAGE [--key HEX32]");
     print::line(
-        b"    The 64 pages: levels, key indexes, no-key state, bits burnt, who may read and write. S is",
+        b"    The 64 pages: levels, key indexes, no-key state, bits burnt, who may read and write; and the",
+    );
+    print::line(
+        b"    bits burnt in all. In a bar # is 192 bits, + fewer, . none: only a full page is ########. S is",
     );
     print::line(
         b"    Secure, N Non-secure, B the bootloader, which runs as Secure: the levels of S count for it too.",

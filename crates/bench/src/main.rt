@@ -2,6 +2,7 @@
 // list or write a job, show the code of a value.
 // The script ./otp at the root runs it, and turns the last line that it writes into an exit status.
 mod begin;
+mod burnt;
 mod callers;
 mod changes;
 mod code;

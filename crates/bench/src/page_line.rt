@@ -1,8 +1,8 @@
 // What the screen of the pages says of one page, on a line of its own (document 01, "Locks", "Keys", "Permission").
 ghost use Prim.Native.Nat.{_<_};
+use crate::burnt;
 use crate::owner::allowed;
 use crate::print;
-use access::rows::row_at;
 use chip::callers::BOOTLOADER;
 use chip::callers::NONSECURE;
 use chip::callers::SECURE;
@@ -12,7 +12,6 @@ use chip::permission::row_key_level;
 use chip::state::State;
 use chip::state::counted_index;
 use chip::state::counted_no_key;
-use row::writing::pulses;
 
 // What the screen says of a page. Of each caller: 0 may do nothing, 1 read, 2 read and write, 3 read, and write as the levels of each
 // row's own page allow.
@@ -27,19 +26,6 @@ pub struct Line {
     pub by_secure: u32,
     pub by_nonsecure: u32,
     pub by_bootloader: u32,
-}
-
-// The bits that are set in a page's 64 rows.
-fn burnt(rows: &[u32], page: u32) -> u32
-    requires { ⌜ page < 64 ⌝ }
-{
-    let mut sum: u32 = 0;
-    for more in 0..64 {
-        // A row has 24 bits, so neither remainder takes anything away.
-        let bits = pulses(0, row_at(rows, page * Page::ROWS + more));
-        sum = sum % 65536 + bits % 32;
-    }
-    sum
 }
 
 // What a caller may do with the rows of a page. The lock rows, from page 62 on, go by the levels of the pages that they lock, and all
@@ -57,7 +43,7 @@ fn may(state: State, caller: u32, page: u32) -> u32
     3
 }
 
-pub fn line_of(rows: &[u32], state: State, number: u32) -> Line
+pub fn line_of(state: State, number: u32) -> Line
     requires { ⌜ number < 64 ⌝ }
 {
     let page = Page {
@@ -66,6 +52,7 @@ pub fn line_of(rows: &[u32], state: State, number: u32) -> Line
     let writekeys = state.writekey;
     let readkeys = state.readkey;
     let nokeys = state.nokey;
+    let tallies = state.tallies;
     Line {
         secure: shown_level(state, SECURE, page),
         nonsecure: shown_level(state, NONSECURE, page),
@@ -73,7 +60,7 @@ pub fn line_of(rows: &[u32], state: State, number: u32) -> Line
         writekey: counted_index(writekeys, page),
         readkey: counted_index(readkeys, page),
         nokey: counted_no_key(nokeys, page),
-        burnt: burnt(rows, number),
+        burnt: burnt::of_page(tallies, number),
         by_secure: may(state, SECURE, number),
         by_nonsecure: may(state, NONSECURE, number),
         by_bootloader: may(state, BOOTLOADER, number),
@@ -120,8 +107,8 @@ fn by(may: u32) {
 }
 
 pub fn titles() {
-    print::line(b"                    level      key index   no-key          may");
-    print::line(b" page  rows         S  N  B    write read  state   burnt   S    N    B");
+    print::line(b"                    level     key index   no-key                   may");
+    print::line(b" page  rows         S  N  B   write read  state  burnt  of 1536    S    N    B");
 }
 
 // One page on a line of its own.
@@ -135,11 +122,13 @@ pub fn write(page: u32, line: Line)
     print::text(b"  ");
     print::number_left(line.secure, 3);
     print::number_left(line.nonsecure, 3);
-    print::number_left(line.bootloader, 5);
+    print::number_left(line.bootloader, 4);
     index(line.writekey);
     index(line.readkey);
     no_key(line.nokey);
-    print::right(line.burnt, 12);
+    print::right(line.burnt, 11);
+    print::text(b"  ");
+    burnt::bar(line.burnt);
     print::text(b"   ");
     by(line.by_secure);
     print::text(b"  ");

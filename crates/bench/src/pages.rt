@@ -1,6 +1,7 @@
-// `otp pages`: the 64 pages on one screen of 80 columns, and the valid keys.
+// `otp pages`: the 64 pages on one screen of 80 columns, the sum of the bits burnt, and the valid keys.
 ghost use Prim.Native.Nat.{_<_};
 use crate::begin::begin;
+use crate::burnt;
 use crate::ended::Ended;
 use crate::entered_key;
 use crate::page_line::Line;
@@ -69,8 +70,8 @@ fn with(folded: Folded, page: u32, line: Line) -> Folded
     }
 }
 
-fn lines(rows: &[u32], state: State) {
-    let first = line_of(rows, state, 0);
+fn lines(state: State) {
+    let first = line_of(state, 0);
     write(0, first);
     let mut folded = Folded {
         line: first,
@@ -78,7 +79,7 @@ fn lines(rows: &[u32], state: State) {
         until: 0,
     };
     for page in 1..64 {
-        folded = with(folded, page, line_of(rows, state, page));
+        folded = with(folded, page, line_of(state, page));
     }
     write_folded(folded);
 }
@@ -116,12 +117,16 @@ fn key_lines(state: State) {
     }
 }
 
-fn show(rows: &[u32; 4096], state: State) {
+fn show(state: State) {
     titles();
-    lines(rows, state);
+    lines(state);
+    print::end();
+    let tallies = state.tallies;
+    burnt::sum_line(tallies);
     print::end();
     print::line(b"Level 0 reads and writes, 1 reads, 2 does neither. S is Secure, N Non-secure,");
     print::line(b"B the bootloader. The level of S counts for B too, and for N where it writes.");
+    print::line(b"In a bar # is 192 bits burnt, + fewer, . none: only a full page is ########.");
     print::line(
         b"* A lock row is always read. Writing it goes by the levels of the page it locks,",
     );
@@ -151,7 +156,7 @@ pub fn run() -> Ended {
         return ended;
     }
     let state = begun.state;
-    show(&rows, state);
+    show(state);
     entered_key::line(words, state);
     Ended::Answered(0)
 }

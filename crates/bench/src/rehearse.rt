@@ -1,5 +1,6 @@
-// `otp rehearse`: a job judged and rehearsed, and what it changes row by row (document 01, "Jobs").
+// `otp rehearse`: a job judged and rehearsed, what it changes row by row, and what each page gains (document 01, "Jobs").
 use crate::begin::begin;
+use crate::burnt;
 use crate::changes;
 use crate::ended::Ended;
 use crate::entered_key;
@@ -14,6 +15,7 @@ use crate::usage;
 use crate::usage::Takes;
 use crate::words;
 use crate::words::Words;
+use chip::state::Outcome;
 use chip::state::State;
 use form::entries::count_of;
 use job::jobs::rehearse;
@@ -89,15 +91,21 @@ fn saved_line(words: Words) {
     }
 }
 
-fn burnt(rows: &mut [u32; 4096], state: State, job: &[u8], limit: u32) -> Answer {
-    let outcome = rehearse(rows, state, job, limit);
-    outcome.answer
+fn burnt_into(rows: &mut [u32; 4096], state: State, job: &[u8], limit: u32) -> Outcome {
+    rehearse(rows, state, job, limit)
+}
+
+fn gains(before: State, after: State) {
+    let old = before.tallies;
+    let new = after.tallies;
+    burnt::gain_lines(old, new);
 }
 
 // Rehearses a job on a copy of the rows. A refused job leaves nothing to save, and what cannot be saved is not shown.
 fn rehearsed(words: Words, before: &[u32; 4096], state: State, job: &[u8], limit: u32) -> Ended {
     let mut after = *before;
-    let answer = burnt(&mut after, state, job, limit);
+    let outcome = burnt_into(&mut after, state, job, limit);
+    let answer = outcome.answer;
     if answer.number != 0 {
         job_refusals::lines(before, state, job, answer);
         entered_key::line(words, state);
@@ -107,6 +115,7 @@ fn rehearsed(words: Words, before: &[u32; 4096], state: State, job: &[u8], limit
         return Ended::File;
     }
     show(before, &after, job, answer);
+    gains(state, outcome.state);
     summary(answer, count_of(job), words, limit);
     saved_line(words);
     entered_key::line(words, state);

@@ -5,10 +5,10 @@ use Rattle.bench.proofs.pages.lines.Statement.{statement}
 use Rattle.bench.proofs.pages.lines.Tie as tie
 
 abbrev Inv-loop : tie.InvT-loop
-Inv-loop rows state folded₀ page₀ folded page = Unit
+Inv-loop state folded₀ page₀ folded page = Unit
 
 abbrev μ-loop : tie.MeasureT-loop
-μ-loop rows state folded₀ page₀ folded page = 64 - page
+μ-loop state folded₀ page₀ folded page = 64 - page
 
 line-of-requires : tie.Need-line-of-requires Inv-loop μ-loop
 line-of-requires c κs = search needs
