@@ -89,6 +89,15 @@ module _ (state : State) (page level : ℕ) where
 -- ---- a done advance
 
 -- its domain has soft locks, and its level is one
+pub in-range : (caller domain page level : ℕ) → advanceNumber caller domain page level ≡ 0 → (domain ≤ 1) × (level ≤ 2)
+in-range caller domain page level none =
+    let by-caller = passed (noCaller caller) 3 _ none in
+    let by-domain = passed (noDomain domain) 3 _ (by-caller .1) in
+    let by-page = passed (ltb 63 page) 3 _ (by-domain .1) in
+    let by-level = passed (ltb 2 level) 3 _ (by-page .1) in
+    let soft = passed (eqb domain 2) 6 _ (by-level .1) in
+    (omega (arith, ltb-false 2 domain (by-domain .0), eqb-false domain 2 (soft .0)), ltb-false 2 level (by-level .0))
+
 module _ (state : State) (caller domain page level : ℕ) (done : advance state caller domain page level .answer .number ≡ 0) where
   advance-number : advanceNumber caller domain page level ≡ 0
   unfolding advance
@@ -98,15 +107,6 @@ module _ (state : State) (caller domain page level : ℕ) (done : advance state 
   advance-state : advance state caller domain page level .state ≡ advanced state domain page level
   unfolding advance
   advance-state = rw (eq-eqb (advanceNumber caller domain page level) 0 advance-number)
-
-  in-range : (domain ≤ 1) × (level ≤ 2)
-  in-range =
-      let by-caller = passed (noCaller caller) 3 _ advance-number in
-      let by-domain = passed (noDomain domain) 3 _ (by-caller .1) in
-      let by-page = passed (ltb 63 page) 3 _ (by-domain .1) in
-      let by-level = passed (ltb 2 level) 3 _ (by-page .1) in
-      let soft = passed (eqb domain 2) 6 _ (by-level .1) in
-      (omega (arith, ltb-false 2 domain (by-domain .0), eqb-false domain 2 (soft .0)), ltb-false 2 level (by-level .0))
 
 -- a domain of the two that have soft locks is one of them
 secure-or-not : (domain : ℕ) → domain ≤ 1 → (eqb domain 0 || eqb domain 1) ≡ true
@@ -124,7 +124,7 @@ advanceLeavesHigher state caller domain page level done =
         → shownLevel (if t then state else withLevel state domain page level) domain page ≡ max (shownLevel state domain page) level
     go true e = sym (max-eq-left (leb-true level _ e))
     go false e =
-        let range = in-range state caller domain page level done in
+        let range = in-range caller domain page level (advance-number state caller domain page level done) in
         let higher = leb-false level _ e in
         left-shown state page level (eqb domain 0) (eqb domain 1) (secure-or-not domain (range .0)) (range .1) higher
         ∙ sym (max-eq-right (le-of-lt higher))
