@@ -8,6 +8,7 @@ pub mod Numbers
 pub mod Permits
 pub mod LockRows
 pub mod Refusals
+pub mod TwoWrong
 pub mod Conditions
 pub mod Burning
 pub mod WithoutReset
@@ -34,3 +35,7 @@ pub mod Gains
 pub mod Counted
 pub mod Naming
 pub mod Tallies
+pub mod Raising
+pub mod AnyOrder
+pub mod Settings
+pub mod Showing

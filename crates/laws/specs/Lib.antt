@@ -11,3 +11,4 @@ pub mod Callers
 pub mod Cuts
 pub mod Jobs
 pub mod Tallies
+pub mod Settings

@@ -49,6 +49,10 @@ Complete = (row value : ℕ) → Near row value → (readRow row .number ≡ 0) 
 abbrev pub EightExactly : Type 0
 EightExactly = (row : ℕ) → (readRow row .number ≡ 8) ↔ ((value : ℕ) → Near row value → ⊥)
 
+-- bits that differ from a code in two places are refused with 8: noticed, and never misread
+abbrev pub TwoNoticed : Type 0
+TwoNoticed = (row value : ℕ) → Value value → distance (code value) (looked row) ≡ 2 → readRow row .number ≡ 8
+
 -- an undamaged row is read clean, in its polarity
 abbrev pub Undamaged : Type 0
 Undamaged =
