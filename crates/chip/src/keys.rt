@@ -8,21 +8,21 @@ use crate::state::Words;
 use crate::state::counted_index;
 use crate::state::counted_no_key;
 
-// Whether two keys have the same words.
+// Whether two keys have the same words. All eight are compared before the one test, wherever they differ: a test at each word would tell by
+// its time how much of a key is right.
 fn same(a: Words, b: Words) -> bool
     ensures { λ r. ⌜ r ≡ sameLists a b ⌝ }
 {
+    let mut differing = 0;
     let mut i = 0;
     while i < 8 {
-        if a[i] != b[i] {
-            return false;
-        }
+        differing = differing | (a[i] ^ b[i]);
         i += 1;
     }
-    true
+    differing == 0
 }
 
-// Whether the key of an index matches the entered one.
+// Whether the key of an index matches the entered one, by one test of all that is secret of it.
 pub fn matches(state: State, index: u32) -> bool
     ensures { λ r. ⌜ r ≡ spec.matches state index ⌝ }
 {
@@ -38,18 +38,14 @@ pub fn matches(state: State, index: u32) -> bool
     if !key.valid {
         return false;
     }
-    if !key.whole {
-        return false;
-    }
     let words = key.words;
     let entered = state.entered;
-    if !same(words, entered) {
-        return false;
-    }
-    !same(entered, [0; 8])
+    let equal = same(words, entered);
+    let none = same(entered, [0; 8]);
+    key.whole & equal & !none
 }
 
-// The key level of a page.
+// The key level of a page. Level 1 is one path, whether the read key gives it or the no-key state.
 pub fn key_level(state: State, page: Page) -> u32
     ensures { λ r. ⌜ r ≡ spec.keyLevel state (page .number) ⌝ }
 {
@@ -66,13 +62,12 @@ pub fn key_level(state: State, page: Page) -> u32
     if matches(state, writekey) {
         return 0;
     }
-    if matches(state, readkey) {
+    let by_read_key = matches(state, readkey);
+    let closed = counted_no_key(nokeys, page);
+    if by_read_key | !closed {
         return 1;
     }
-    if counted_no_key(nokeys, page) {
-        return 2;
-    }
-    1
+    2
 }
 
 // Whether a row is one of a latched valid key.

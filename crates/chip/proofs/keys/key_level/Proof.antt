@@ -2,10 +2,12 @@
 -- Assumes nothing.
 use borrow.Author.Needs.{needs}
 use mathlib.Core.Path.{_≡_}
-use mathlib.Core.Bool.{false, _&&_}
+use Prim.Native.Nat.{ℕ}
+use mathlib.Core.Bool.{Bool, true, false, not, _&&_, _||_}
 use mathlib.Core.Logic.{⊎-elim}
 use borrow.Author.Tests.{eq-eqb, ne-eqb}
 use lib.Dec.{eqb}
+use Rattle.row.specs.Choice.{if_then_else_}
 use Rattle.chip.specs.Keys.{keyLevel}
 use Rattle.chip.proofs.keys.key_level.Statement.{statement}
 use Rattle.chip.proofs.keys.key_level.Tie as tie
@@ -34,20 +36,28 @@ returns-2 c = rw (← c .before .before .before .before .counted-index .ensures,
 matches-requires-2 : tie.Need-matches-requires-2
 matches-requires-2 c κs = search needs
 
-returns-3 : tie.Need-returns-3
-unfolding keyLevel
-returns-3 c = rw (← c .before .before .before .before .before .before .counted-index .ensures, ← c .before .before .before .before .before .counted-index2 .ensures, registered (c .before .before .before .before), ← c .before .before .before .matches .ensures, c .before .before .if3 .left, ← c .before .matches2 .ensures, c .if4 .taken)
-
 counted-no-key-requires : tie.Need-counted-no-key-requires
 counted-no-key-requires c κs = search needs
 
-returns-4 : tie.Need-returns-4
-unfolding keyLevel
-returns-4 c = rw (← c .before .before .before .before .before .before .before .before .counted-index .ensures, ← c .before .before .before .before .before .before .before .counted-index2 .ensures, registered (c .before .before .before .before .before .before), ← c .before .before .before .before .before .matches .ensures, c .before .before .before .before .if3 .left, ← c .before .before .before .matches2 .ensures, c .before .before .if4 .left, ← c .before .counted-no-key .ensures, c .if5 .taken)
+-- level 1 is that of a read key that matches or of no-key state 0, and level 2 is neither's
+by-read-key : (matched closed t : Bool) → (matched || not closed) ≡ t → _≡_ {A = ℕ} (if t then 1 else 2) (if matched then 1 else if closed then 2 else 1)
+by-read-key true closed t e = rw (← e)
+by-read-key false true t e = rw (← e)
+by-read-key false false t e = rw (← e)
 
-returns-5 : tie.Need-returns-5
+-- with no write key that matches, both come to that
+level-then : (c : tie.After-counted-no-key) (t : Bool) → (c .before .matches2 .result || not (c .counted-no-key .result)) ≡ t
+    → (if t then 1 else 2) ≡ keyLevel (c .before .before .before .before .before .before .before .before .before .before .args .state) (c .before .before .before .before .before .before .before .before .before .before .args .page .number)
 unfolding keyLevel
-returns-5 c = rw (← c .before .before .before .before .before .before .before .before .counted-index .ensures, ← c .before .before .before .before .before .before .before .counted-index2 .ensures, registered (c .before .before .before .before .before .before), ← c .before .before .before .before .before .matches .ensures, c .before .before .before .before .if3 .left, ← c .before .before .before .matches2 .ensures, c .before .before .if4 .left, ← c .before .counted-no-key .ensures, c .if5 .left)
+level-then c t e =
+    rw (← c .before .before .before .before .before .before .counted-index .ensures, ← c .before .before .before .before .before .counted-index2 .ensures, registered (c .before .before .before .before), ← c .before .before .before .matches .ensures, c .before .before .if3 .left, ← c .before .matches2 .ensures, ← c .counted-no-key .ensures)
+    (by-read-key (c .before .matches2 .result) (c .counted-no-key .result) t e)
+
+returns-3 : tie.Need-returns-3
+returns-3 c = level-then (c .before) true (c .if4 .taken)
+
+returns-4 : tie.Need-returns-4
+returns-4 c = level-then (c .before) false (c .if4 .left)
 
 pub key-level-spec : {M : Type 1} → statement M
 key-level-spec =
@@ -59,7 +69,6 @@ key-level-spec =
     matches-requires
     returns-2
     matches-requires-2
-    returns-3
     counted-no-key-requires
-    returns-4
-    returns-5)
+    returns-3
+    returns-4)

@@ -1,12 +1,11 @@
 -- `chip::keys::matches` meets its contract: each answer by the tests that led to it.
 -- Assumes nothing.
 use borrow.Author.Needs.{needs}
-use mathlib.Core.Path.{_≡_, sym, ap, _∙_}
-use mathlib.Core.Bool.{true, false, not}
+use mathlib.Core.Path.{_≡_}
+use mathlib.Core.Bool.{true, false}
 use borrow.Author.Tests.{lt-leb, le-leb}
 use borrow.Author.Tests.{not-true, not-false}
 use Rattle.chip.specs.Keys.{keyAt}
-use Rattle.chip.specs.Lists.{same}
 use Rattle.chip.specs.Keys.{matches}
 use Rattle.chip.proofs.keys.matches.Statement.{statement}
 use Rattle.chip.proofs.keys.matches.Tie as tie
@@ -35,39 +34,18 @@ returns-3 c =
     let valid : keyAt (s .state) (s .index) .valid ≡ false = not-true _ (c .if3 .taken) in
     simp (le-leb _ _ (c .before .before .before .before .before .if1 .left), le-leb _ _ (c .before .before .before .before .if2 .left), valid)
 
-returns-4 : tie.Need-returns-4
-unfolding matches
-returns-4 c =
-    let s = c .before .before .before .before .before .before .before .before .args in
-    let valid : keyAt (s .state) (s .index) .valid ≡ true = not-false _ (c .before .before .if3 .left) in
-    let whole : keyAt (s .state) (s .index) .whole ≡ false = not-true _ (c .if4 .taken) in
-    simp (le-leb _ _ (c .before .before .before .before .before .before .before .if1 .left), le-leb _ _ (c .before .before .before .before .before .before .if2 .left), valid, whole)
-
 same-requires : tie.Need-same-requires
 same-requires c κs = search needs
-
-returns-5 : tie.Need-returns-5
-unfolding matches
-returns-5 c =
-    let s = c .before .before .before .before .before .before .before .before .before .before .before .before .args in
-    let valid : keyAt (s .state) (s .index) .valid ≡ true = not-false _ (c .before .before .before .before .before .before .if3 .left) in
-    let whole : keyAt (s .state) (s .index) .whole ≡ true = not-false _ (c .before .before .before .before .if4 .left) in
-    let other : same (keyAt (s .state) (s .index) .words) (s .state .entered) ≡ false =
-    sym (c .before .same .ensures) ∙ not-true _ (c .if5 .taken) in
-    simp (le-leb _ _ (c .before .before .before .before .before .before .before .before .before .before .before .if1 .left), le-leb _ _ (c .before .before .before .before .before .before .before .before .before .before .if2 .left), valid, whole, other)
 
 same-requires-2 : tie.Need-same-requires-2
 same-requires-2 c κs = search needs
 
-returns-6 : tie.Need-returns-6
+returns-4 : tie.Need-returns-4
 unfolding matches
-returns-6 c =
-    let s = c .before .before .before .before .before .before .before .before .before .before .before .before .before .args in
-    let valid : keyAt (s .state) (s .index) .valid ≡ true = not-false _ (c .before .before .before .before .before .before .before .if3 .left) in
-    let whole : keyAt (s .state) (s .index) .whole ≡ true = not-false _ (c .before .before .before .before .before .if4 .left) in
-    let equal : same (keyAt (s .state) (s .index) .words) (s .state .entered) ≡ true =
-    sym (c .before .before .same .ensures) ∙ not-false _ (c .before .if5 .left) in
-    simp (le-leb _ _ (c .before .before .before .before .before .before .before .before .before .before .before .before .if1 .left), le-leb _ _ (c .before .before .before .before .before .before .before .before .before .before .before .if2 .left), valid, whole, equal) (ap not (c .same2 .ensures))
+returns-4 c =
+    let s = c .before .before .before .before .before .before .before .before .before .before .before .args in
+    let valid : keyAt (s .state) (s .index) .valid ≡ true = not-false _ (c .before .before .before .before .before .if3 .left) in
+    rw (le-leb _ _ (c .before .before .before .before .before .before .before .before .before .before .if1 .left), le-leb _ _ (c .before .before .before .before .before .before .before .before .before .if2 .left), valid, ← c .before .before .same .ensures, ← c .before .same2 .ensures)
 
 pub matches-spec : {M : Type 1} → statement M
 matches-spec =
@@ -79,8 +57,6 @@ matches-spec =
     mul-key
     array-copy-out-key
     returns-3
-    returns-4
     same-requires
-    returns-5
     same-requires-2
-    returns-6)
+    returns-4)
