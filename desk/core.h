@@ -1,4 +1,4 @@
-/* What desk/measure.c asks of a core. */
+/* What the programs that count ask of a core. */
 #ifndef CORE_H
 #define CORE_H
 

@@ -5,7 +5,7 @@
 
    The board: 512 rows burnt by a job, key 1 burnt and valid, one page behind it, and the key entered. The full chip: every row below
    0xf40 burnt, all six keys whole with a bit of each row worn away, every page locked and registered. */
-#include "core.h"
+#include "counted.h"
 #include "otp.h"
 
 #include <stdio.h>
@@ -38,8 +38,6 @@ static otp_answer answer;
         state = made.state;       \
     } while (0)
 
-static void nothing(void) {}
-static void many(void) { __asm__ volatile(".rept 20000\n\tnop\n\t.endr"); }
 static void reset(void) { KEEP(otp_reset(rows, OTP_ROWS, state)); }
 static void read_raw(void) { answer = otp_read_raw(rows, OTP_ROWS, state, OTP_SECURE, 7); }
 static void read_as_bootloader(void) { answer = otp_read_raw(rows, OTP_ROWS, state, OTP_BOOTLOADER, 7); }
@@ -170,21 +168,6 @@ static void prepare(const uint32_t *chip)
     memcpy(rows, chip, sizeof rows);
     state = board_state;
     answer.number = OTP_REFUSED_ARGUMENT;
-}
-
-/* Never cloned for one call, so that every call is reached in the same way. */
-__attribute__((noinline, noclone)) static uint32_t counted(void (*call)(void))
-{
-    uint32_t before = core_count();
-    call();
-    return core_count() - before;
-}
-
-/* The count goes on by a step that is the emulator's own, so it is held to that of 20,000 instructions, and rounded. */
-static uint32_t instructions(void (*call)(void))
-{
-    uint32_t empty = counted(nothing), took = counted(call) - empty, measure = counted(many) - empty;
-    return (uint32_t)(((uint64_t)took * 20000 + measure / 2) / measure);
 }
 
 static uint32_t stack_used(void (*call)(void))
