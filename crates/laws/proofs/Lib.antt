@@ -39,3 +39,7 @@ pub mod Raising
 pub mod AnyOrder
 pub mod Settings
 pub mod Showing
+pub mod RefusedAlike
+pub mod StillAgree
+pub mod Plugins
+pub mod TwoChips

@@ -104,7 +104,7 @@ module _ (state : State) (caller domain page level : ℕ) (done : advance state 
   advance-number =
       sym (own-number (λ (o : Outcome). o .answer .number) (advanceNumber caller domain page level) _ _ refl refl) ∙ done
 
-  advance-state : advance state caller domain page level .state ≡ advanced state domain page level
+  pub advance-state : advance state caller domain page level .state ≡ advanced state domain page level
   unfolding advance
   advance-state = rw (eq-eqb (advanceNumber caller domain page level) 0 advance-number)
 
@@ -158,13 +158,13 @@ levelsFallBack rows state page done h =
 -- ---- calls
 
 -- no counted level is below the one before
-abbrev NoneFalls : State → State → Type 0
+abbrev pub NoneFalls : State → State → Type 0
 NoneFalls before after = (domain page : ℕ) → shownLevel before domain page ≤ shownLevel after domain page
 
 none-falls : (state : State) → NoneFalls state state
 none-falls state domain page = le-refl (shownLevel state domain page)
 
-advanced-raises : (state : State) (domain page level : ℕ) → NoneFalls state (advanced state domain page level)
+pub advanced-raises : (state : State) (domain page level : ℕ) → NoneFalls state (advanced state domain page level)
 advanced-raises state domain page level = go (leb level (shownLevel state domain page)) refl
   where
     go : (t : Bool) → leb level (shownLevel state domain page) ≡ t → NoneFalls state (if t then state else withLevel state domain page level)

@@ -65,3 +65,8 @@ perform chip (aRehearsal job limit) = leaving (rehearse (chip .rows) (chip .stat
 unfoldable pub performAll : Chip → List Call → Chip
 performAll chip [] = chip
 performAll chip (call ∷ others) = performAll (perform chip call .chip) others
+
+-- and what each of them answers
+unfoldable pub answersOf : Chip → List Call → List Answer
+answersOf chip [] = []
+answersOf chip (call ∷ others) = perform chip call .answer ∷ answersOf (perform chip call .chip) others

@@ -12,3 +12,4 @@ pub mod Cuts
 pub mod Jobs
 pub mod Tallies
 pub mod Settings
+pub mod Plugins
