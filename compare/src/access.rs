@@ -15,7 +15,8 @@ impl Model {
     fn entry(&self, rows: &[u32], state: &State, row: u32, allowed: bool) -> Result<u32, u32> {
         let entry = rows[row as usize];
         need(entry <= LARGEST || !self.has(Fault::SizeFirst), 3)?;
-        need(!hidden(state, row), 6)?;
+        let shows = entry == 0 && self.has(Fault::HiddenIfBurnt);
+        need(!hidden(state, row) || shows, 6)?;
         need(allowed, 7)?;
         need(entry <= LARGEST, 3)?;
         Ok(entry)
@@ -60,6 +61,9 @@ impl Model {
         if self.has(Fault::VoteByNumber) {
             need(!group.clone().any(|row| hidden(state, row)), 6)?;
             need(group.clone().all(|row| may_read(self.fault, state, caller, row)), 7)?;
+        }
+        if self.has(Fault::VoteSizesFirst) {
+            need(group.clone().all(|row| rows[row as usize] <= LARGEST), 3)?;
         }
         let mut taken = Vec::new();
         for row in group {

@@ -5,6 +5,14 @@ use crate::call::{Kind, CALLS};
 /// The numbers run from 0 to 11.
 const NUMBERS: usize = 12;
 
+/// The numbers that a call can give to those who make it: none, where they do not make it at all.
+pub type CanGive = fn(&Kind) -> Vec<u32>;
+
+/// What a call can give to anyone.
+pub fn to_anyone(kind: &Kind) -> Vec<u32> {
+    kind.numbers.to_vec()
+}
+
 #[derive(Default)]
 pub struct Counts {
     given: [[u64; NUMBERS]; CALLS.len()],
@@ -20,28 +28,32 @@ impl Counts {
     }
 
     /// The first call and number that it can give but never gave.
-    pub fn missing(&self) -> Option<(&'static str, u32)> {
+    pub fn missing(&self, can_give: CanGive) -> Option<(&'static str, u32)> {
         for (counts, kind) in self.given.iter().zip(CALLS) {
-            for number in kind.numbers {
-                if counts[*number as usize] == 0 {
-                    return Some((kind.name, *number));
+            for number in can_give(kind) {
+                if counts[number as usize] == 0 {
+                    return Some((kind.name, number));
                 }
             }
         }
         None
     }
 
-    pub fn print(&self) {
+    pub fn print(&self, can_give: CanGive) {
         let heads: Vec<String> = (0..NUMBERS).map(|number| format!("{number:>8}")).collect();
         println!("{:<10}{}{:>10}", "call", heads.concat(), "all");
-        for (counts, Kind { name, numbers, .. }) in self.given.iter().zip(CALLS) {
+        for (counts, kind) in self.given.iter().zip(CALLS) {
+            let numbers = can_give(kind);
+            if numbers.is_empty() {
+                continue;
+            }
             let cells: Vec<String> = (0..NUMBERS)
                 .map(|number| match numbers.contains(&(number as u32)) {
                     true => format!("{:>8}", counts[number]),
                     false => format!("{:>8}", "-"),
                 })
                 .collect();
-            println!("{name:<10}{}{:>10}", cells.concat(), counts.iter().sum::<u64>());
+            println!("{:<10}{}{:>10}", kind.name, cells.concat(), counts.iter().sum::<u64>());
         }
     }
 }

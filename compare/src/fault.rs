@@ -91,6 +91,9 @@ faults! {
     SumWraps          "sum-wraps"           "a tally and its new bits are added in 16 bits";
     NamedAbove        "named-above"         "a named page without a new bit stays above 1,536";
     OthersLowered     "others-lowered"      "a page that is not named comes down to 1,536 too";
+    VoteSizesFirst    "vote-sizes-first"    "a vote looks at the size of all its rows before it refuses one";
+    HiddenIfBurnt     "hidden-if-burnt"     "a row of a valid key is hidden only where something is burnt in it";
+    SecureLockAlone   "secure-lock-alone"   "a Non-secure write looks at Secure's lock alone";
 }
 
 /// The fault of a name.

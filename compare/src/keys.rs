@@ -56,7 +56,7 @@ pub fn latch_key(fault: Option<Fault>, codes: &Codes, rows: &[u32], k: u32) -> K
 }
 
 /// A latched key index; above 7 counts as 7.
-fn index(fault: Option<Fault>, latched: u8) -> u8 {
+pub fn index(fault: Option<Fault>, latched: u8) -> u8 {
     if fault == Some(Fault::IndexWraps) {
         return latched & 7;
     }
@@ -64,7 +64,7 @@ fn index(fault: Option<Fault>, latched: u8) -> u8 {
 }
 
 /// Whether the key of an index matches the entered one.
-fn matches(fault: Option<Fault>, state: &State, index: u8) -> bool {
+pub fn matches(fault: Option<Fault>, state: &State, index: u8) -> bool {
     if !(1..=6).contains(&index) {
         return false;
     }

@@ -5,7 +5,8 @@
 //! `model`, `access`, `latches`, `jobs`, `calls`. Each uses only those before it, and what has no rule in it; `tests/line.rs` sees to it.
 //! The library is in `face`, behind the child process of `driver`.
 //! `plain` is for timings alone, and is not there when the comparison is built.
-//! Everything else draws calls, makes them on both sides and compares what comes back.
+//! Everything else draws calls, makes them on both sides and compares what comes back. `agreement` says when two chips look the same to a
+//! Non-secure plug-in; `unlike`, `pairs`, `two_chips`, `plugins`, `written_pair` and `sharpness` hold the library to that.
 
 pub mod call;
 pub mod part;
@@ -37,6 +38,7 @@ pub mod face;
 #[path = "selftest.rs"]
 pub mod face;
 
+pub mod agreement;
 pub mod arguments;
 pub mod bench;
 pub mod callers;
@@ -47,8 +49,14 @@ pub mod images;
 pub mod jobfiles;
 pub mod lock_bytes;
 pub mod lock_rows;
+pub mod pairs;
+pub mod plugins;
 pub mod random;
 pub mod recount;
 pub mod run;
 pub mod sequences;
+pub mod sharpness;
 pub mod states;
+pub mod two_chips;
+pub mod unlike;
+pub mod written_pair;

@@ -102,6 +102,11 @@ macro_rules! shape {
         impl $shape {
             /// The names of its fields, in their order.
             pub const FIELDS: &[&str] = &[$(stringify!($field),)*];
+
+            /// Each by its name, with what it holds.
+            pub fn fields(&self) -> Vec<(&'static str, String)> {
+                vec![$((stringify!($field), format!("{:?}", self.$field)),)*]
+            }
         }
 
         impl Default for $shape {

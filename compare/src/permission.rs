@@ -63,6 +63,7 @@ pub fn may_write(fault: Option<Fault>, state: &State, caller: u32, row: u32) -> 
     match rule {
         SECURE => secure == 0 && key == 0,
         NONSECURE if fault == Some(Fault::NonsecureOwnLock) => own == 0 && key == 0,
+        NONSECURE if fault == Some(Fault::SecureLockAlone) => secure == 0 && key == 0,
         NONSECURE => own == 0 && secure == 0 && key == 0,
         _ => {
             let left_out = [Fault::BootWriteOwn, Fault::BootWriteSecure, Fault::BootWriteKey];

@@ -29,7 +29,7 @@ fn key(random: &mut Random, image: &Image) -> Key {
 /// Tallies at and around the most that a page can have, and around none.
 pub const TALLIES: [u16; 9] = [0, 1, 700, 1535, 1536, 1537, 1560, 65512, 65535];
 
-fn tally(random: &mut Random) -> u16 {
+pub fn tally(random: &mut Random) -> u16 {
     match random.below(4) {
         0 => random.below(PAGE_BITS) as u16,
         1 => random.number() as u16,

@@ -8,6 +8,8 @@
 //!     compare --lock-rows                     every lock row written, by the keys and levels of its word and of pages 62 and 63
 //!     compare --callers                       every caller in every domain and at every level, and every byte of a lock row latched
 //!     compare --tallies                       tallies of every kind before every call: each row written and counted, jobs cut at every pulse
+//!     compare [CALLS] [SEED] --plug-ins       Non-secure calls on two chips that agree; 200,000 random ones and seed 1 where not given
+//!     compare --plug-ins --fault NAME         the same with the model, with one fault, in the library's place: does it leak?
 //!
 //! The command of the driver, its words parted by spaces, stands in OTP_DRIVER, or as the first argument of all.
 //!
@@ -19,6 +21,7 @@ use std::process::ExitCode;
 use compare::bench::{Bench, Difference};
 use compare::call::Chip;
 use compare::callers::every_caller;
+use compare::counts::to_anyone;
 use compare::every::{every_read, every_write};
 use compare::every_tally::every_tally;
 use compare::face::{self, Library};
@@ -26,9 +29,14 @@ use compare::fault::{named, Fault, FAULTS};
 use compare::lock_bytes::every_lock_byte;
 use compare::lock_rows::every_lock_row;
 use compare::model::Model;
+use compare::plugins::{self, to_a_plug_in};
 use compare::run::run;
+use compare::sharpness::table;
+use compare::two_chips::TwoChips;
+use compare::unlike::Seen;
+use compare::written_pair::written_pair;
 
-/// Which calls are made. But for the mix and the faults, they are always the same.
+/// Which calls are made. But for the mix, the faults and the plug-ins' lists, they are always the same.
 enum Mode {
     Mix,
     Faults,
@@ -37,11 +45,12 @@ enum Mode {
     LockRows,
     Callers,
     Tallies,
+    PlugIns,
 }
 
 struct Wish {
     driver: Option<String>,
-    calls: u64,
+    calls: Option<u64>,
     seed: u64,
     fault: Option<Fault>,
     mode: Mode,
@@ -51,7 +60,7 @@ struct Wish {
 fn wish() -> Result<Wish, String> {
     let mut wish = Wish {
         driver: None,
-        calls: 1_000_000,
+        calls: None,
         seed: 1,
         fault: None,
         mode: Mode::Mix,
@@ -71,25 +80,30 @@ fn wish() -> Result<Wish, String> {
             "--lock-rows" => wish.mode = Mode::LockRows,
             "--callers" => wish.mode = Mode::Callers,
             "--tallies" => wish.mode = Mode::Tallies,
+            "--plug-ins" => wish.mode = Mode::PlugIns,
             _ => numbers.push(word.parse::<u64>().map_err(|_| format!("not understood: '{word}'"))?),
         }
     }
     if numbers.len() > 2 {
         return Err("at most two numbers: calls and seed".to_string());
     }
-    wish.calls = numbers.first().copied().unwrap_or(wish.calls);
+    wish.calls = numbers.first().copied();
     wish.seed = numbers.get(1).copied().unwrap_or(wish.seed);
     Ok(wish)
 }
+
+/// How many calls the mix has, and the plug-ins' lists, where it is not given.
+const MIX: u64 = 1_000_000;
+const LISTS: u64 = 200_000;
 
 /// The comparison itself, with the table.
 fn compare(wish: &Wish, library: &Library, sound: &Model) -> Result<(), String> {
     let model = wish.fault.map_or(sound.clone(), Model::faulty);
     let mut bench = Bench::new(library, &model);
-    let result = run(&mut bench, &sound.codes, sound, wish.calls, wish.seed);
-    bench.counts.print();
+    let result = run(&mut bench, &sound.codes, sound, wish.calls.unwrap_or(MIX), wish.seed);
+    bench.counts.print(to_anyone);
     result.map_err(|Difference(line)| format!("seed {}: {line}", wish.seed))?;
-    if let Some((name, number)) = bench.counts.missing() {
+    if let Some((name, number)) = bench.counts.missing(to_anyone) {
         return Err(format!("{name} never gave {number} in {} calls", bench.counts.calls));
     }
     println!("{} calls compared, 0 differ", bench.counts.calls);
@@ -99,10 +113,11 @@ fn compare(wish: &Wish, library: &Library, sound: &Model) -> Result<(), String> 
 /// Each fault in turn.
 fn faults(wish: &Wish, library: &Library, sound: &Model) -> Result<(), String> {
     let mut missed = Vec::new();
+    let calls = wish.calls.unwrap_or(MIX);
     for (fault, name, what) in FAULTS {
         let model = Model::faulty(*fault);
         let mut bench = Bench::new(library, &model);
-        let found = run(&mut bench, &sound.codes, sound, wish.calls, wish.seed).is_err();
+        let found = run(&mut bench, &sound.codes, sound, calls, wish.seed).is_err();
         match found {
             true => println!("{name:<20} found after {:>7} calls   {what}", bench.counts.calls),
             false => {
@@ -112,7 +127,7 @@ fn faults(wish: &Wish, library: &Library, sound: &Model) -> Result<(), String> {
         }
     }
     if !missed.is_empty() {
-        return Err(format!("not found within {} calls: {}", wish.calls, missed.join(", ")));
+        return Err(format!("not found within {calls} calls: {}", missed.join(", ")));
     }
     println!("{} faults, all found", FAULTS.len());
     Ok(())
@@ -145,11 +160,50 @@ fn all_of(calls: &[Calls], wish: &Wish, library: &Library, sound: &Model) -> Res
     Ok(())
 }
 
+/// What a plug-in can learn: the written pair, the table of clauses, the random lists.
+fn plug_ins(wish: &Wish, library: &Library, sound: &Model) -> Result<(), String> {
+    let model = wish.fault.map_or(sound.clone(), Model::faulty);
+    let another = face::library(wish.driver.as_deref())?;
+    let libraries: [&dyn Chip; 2] = match wish.fault {
+        Some(_) => [&model, &model],
+        None => [library, &another],
+    };
+    let line = |Difference(line)| line;
+    let mut written = TwoChips::new(libraries, &model);
+    written_pair(&mut written).map_err(line)?;
+    println!("{} calls on the written pair, the same answers", written.calls());
+    for line in table(&mut TwoChips::new(libraries, &model)).map_err(line)? {
+        println!("{line}");
+    }
+    let (mut lists, mut seen) = (TwoChips::new(libraries, &model), Seen::default());
+    let calls = wish.calls.unwrap_or(LISTS);
+    let result = plugins::run(&mut lists, &mut seen, (&sound.codes, sound), calls, wish.seed);
+    seen.print();
+    lists.first.counts.print(to_a_plug_in);
+    result.map_err(|Difference(line)| format!("seed {}: {line}", wish.seed))?;
+    if let Some(kind) = seen.missing() {
+        return Err(format!("no pair differed in {kind}"));
+    }
+    if let Some((name, number)) = lists.first.counts.missing(to_a_plug_in) {
+        return Err(format!("{name} never gave {number} in {} calls", lists.calls()));
+    }
+    println!("{} calls compared, 0 differ", written.calls() + lists.calls());
+    Ok(())
+}
+
 /// What is asked for, and the library to do it with.
 fn begin() -> Result<(Wish, Library), String> {
     let wish = wish()?;
     let library = face::library(wish.driver.as_deref())?;
     Ok((wish, library))
+}
+
+/// What stands in the library's place.
+fn compared_with(wish: &Wish) -> &'static str {
+    match (&wish.mode, wish.fault) {
+        (Mode::PlugIns, Some(_)) => "the model with its fault",
+        _ => face::NAME,
+    }
 }
 
 fn main() -> ExitCode {
@@ -160,7 +214,7 @@ fn main() -> ExitCode {
             return ExitCode::from(2);
         }
     };
-    println!("compared with {}", face::NAME);
+    println!("compared with {}", compared_with(&wish));
     let sound = Model::sound();
     let done = match wish.mode {
         Mode::Mix => compare(&wish, &library, &sound),
@@ -170,6 +224,7 @@ fn main() -> ExitCode {
         Mode::LockRows => all_of(&[every_lock_row], &wish, &library, &sound),
         Mode::Callers => all_of(&[every_caller, every_lock_byte], &wish, &library, &sound),
         Mode::Tallies => all_of(&[every_tally], &wish, &library, &sound),
+        Mode::PlugIns => plug_ins(&wish, &library, &sound),
     };
     match done {
         Ok(()) => ExitCode::SUCCESS,
