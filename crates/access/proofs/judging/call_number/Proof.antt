@@ -30,9 +30,6 @@ returns-5 : tie.Need-returns-5
 unfolding callRungs
 returns-5 c = simp (eq-eqb _ _ (c .before .before .before .before .before .if1 .left), le-ltb _ _ (c .before .before .before .before .if2 .left), c .before .before .before .if3 .left, le-ltb _ _ (c .before .before .if4 .left), c .before .if5 .taken, le-leb _ _ (c .if6 .taken))
 
-row-number-requires : tie.Need-row-number-requires
-row-number-requires c κs = search needs
-
 -- where the code goes on, the call is raw or the row no lock row
 no-lock : (c : tie.Joined5) → (c .before .before .before .before .before .before .args .coded && leb 0xf80 (c .before .before .before .before .before .before .args .row)) ≡ false
 no-lock c = ⊎-elim (λ w. rw (w .0 .taken, lt-leb _ _ (w .1 .left))) (λ w. rw (w .left)) (c .if5 .came)
@@ -45,4 +42,4 @@ returns-6 c =
 
 pub call-number-spec : {M : Type 1} → statement M
 call-number-spec =
-    tie.close (tie.spec returns returns-2 returns-3 returns-4 returns-5 row-number-requires returns-6)
+    tie.close (tie.spec returns returns-2 returns-3 returns-4 returns-5 (λ c κs. search needs) returns-6)

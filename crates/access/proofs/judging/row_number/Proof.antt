@@ -6,12 +6,6 @@ use Rattle.access.specs.Judging.{rowRungs}
 use Rattle.access.proofs.judging.row_number.Statement.{statement}
 use Rattle.access.proofs.judging.row_number.Tie as tie
 
-row-at-requires : tie.Need-row-at-requires
-row-at-requires c κs = search needs
-
-hidden-requires : tie.Need-hidden-requires
-hidden-requires c κs = search needs
-
 returns : tie.Need-returns
 unfolding rowRungs
 returns c = rw (← c .before .hidden .ensures, c .if1 .taken)
@@ -30,4 +24,4 @@ returns-4 c = rw (← c .before .before .before .hidden .ensures, c .before .bef
 
 pub row-number-spec : {M : Type 1} → statement M
 row-number-spec =
-    tie.close (tie.spec row-at-requires hidden-requires returns returns-2 returns-3 returns-4)
+    tie.close (tie.spec (λ c κs. search needs) (λ c κs. search needs) returns returns-2 returns-3 returns-4)

@@ -12,18 +12,12 @@ use Rattle.access.proofs.Answering.{refusal-stays, read-on}
 use Rattle.access.proofs.reads.read_ecc.Statement.{statement}
 use Rattle.access.proofs.reads.read_ecc.Tie as tie
 
-readable-requires : tie.Need-readable-requires
-readable-requires c κs = search needs
-
 returns : tie.Need-returns
 unfolding readEcc callRungs rowRungs refusing
 returns c =
     let s = c .before .before .before .before .args in
     let rows = now (s .rows) in
     refusal-stays (callRungs rows (s .state) (s .caller) (s .row) ecc noValue (mayRead (s .state) (s .caller) (s .row))) tt (rowAt rows (s .row)) _ (c .before .before .readable .ensures) (c .if1 .taken)
-
-read-row-requires : tie.Need-read-row-requires
-read-row-requires c κs = search needs
 
 returns-2 : tie.Need-returns-2
 unfolding readEcc callRungs rowRungs refusing
@@ -33,4 +27,4 @@ returns-2 c =
     c .read-row .ensures ∙ read-on (callRungs rows (s .state) (s .caller) (s .row) ecc noValue (mayRead (s .state) (s .caller) (s .row))) tt (rowAt rows (s .row)) _ (c .before .before .before .readable .ensures) (c .before .if1 .left)
 
 pub read-ecc-spec : {M : Type 1} → statement M
-read-ecc-spec = tie.close (tie.spec readable-requires returns read-row-requires returns-2)
+read-ecc-spec = tie.close (tie.spec (λ c κs. search needs) returns (λ c κs. search needs) returns-2)

@@ -5,12 +5,9 @@ use Rattle.access.specs.Reads.{readRaw}
 use Rattle.access.proofs.reads.read_raw.Statement.{statement}
 use Rattle.access.proofs.reads.read_raw.Tie as tie
 
-readable-requires : tie.Need-readable-requires
-readable-requires c κs = search needs
-
 returns : tie.Need-returns
 unfolding readRaw
 returns c = search needs
 
 pub read-raw-spec : {M : Type 1} → statement M
-read-raw-spec = tie.close (tie.spec readable-requires returns)
+read-raw-spec = tie.close (tie.spec (λ c κs. search needs) returns)

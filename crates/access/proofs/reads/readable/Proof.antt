@@ -7,23 +7,8 @@ use Rattle.row.specs.Answers.{told}
 use Rattle.access.proofs.reads.readable.Statement.{statement}
 use Rattle.access.proofs.reads.readable.Tie as tie
 
-may-read-requires : tie.Need-may-read-requires
-may-read-requires c κs = search needs
-
-call-number-requires : tie.Need-call-number-requires
-call-number-requires c κs = search needs
-
-refused-requires : tie.Need-refused-requires
-refused-requires c κs = search needs
-
 returns : tie.Need-returns
 returns c = rw (← c .before .before .before .may-read .ensures, ← c .before .before .call-number .ensures, ne-eqb _ _ (c .before .if1 .taken)) (c .refused .ensures)
-
-row-at-requires : tie.Need-row-at-requires
-row-at-requires c κs = search needs
-
-told-requires : tie.Need-told-requires
-told-requires c κs = search needs
 
 returns-2 : tie.Need-returns-2
 returns-2 c =
@@ -34,10 +19,10 @@ pub readable-spec : {M : Type 1} → statement M
 readable-spec =
     tie.close
     (tie.spec
-    may-read-requires
-    call-number-requires
-    refused-requires
+    (λ c κs. search needs)
+    (λ c κs. search needs)
+    (λ c κs. search needs)
     returns
-    row-at-requires
-    told-requires
+    (λ c κs. search needs)
+    (λ c κs. search needs)
     returns-2)

@@ -10,14 +10,5 @@ use Rattle.access.proofs.rows.row_at.Tie as tie
 returns : tie.Need-returns
 returns c = sym (List·getD-eq-default (now (c .before .args .rows)) 0 (c .if1 .taken))
 
-mul-result : tie.Need-mul-result
-mul-result c = search needs
-
-shared-slice-read-result : tie.Need-shared-slice-read-result
-shared-slice-read-result c = search needs
-
-returns-2 : tie.Need-returns-2
-returns-2 c = search needs
-
 pub row-at-spec : {M : Type 1} → statement M
-row-at-spec = tie.close (tie.spec returns mul-result shared-slice-read-result returns-2)
+row-at-spec = tie.close (tie.spec returns (λ c. search needs) (λ c. search needs) (λ c. search needs))

@@ -20,27 +20,6 @@ abbrev μ-loop : tie.MeasureT-loop
 loop-holds : tie.Need-loop-holds Inv-loop μ-loop
 loop-holds c = (search needs, search needs, refl)
 
-add-group : tie.Need-add-group Inv-loop μ-loop
-add-group c = omega arith
-
-mul-group : tie.Need-mul-group Inv-loop μ-loop
-mul-group c = omega arith
-
-shared-slice-read-group : tie.Need-shared-slice-read-group Inv-loop μ-loop
-shared-slice-read-group c = omega arith
-
-mul-group-2 : tie.Need-mul-group-2 Inv-loop μ-loop
-mul-group-2 c = omega arith
-
-array-write-group : tie.Need-array-write-group Inv-loop μ-loop
-array-write-group c = omega arith
-
-add-i : tie.Need-add-i Inv-loop μ-loop
-add-i c = omega arith
-
-loop-less : tie.Need-loop-less Inv-loop μ-loop
-loop-less c = omega arith
-
 loop-again : tie.Need-loop-again Inv-loop μ-loop
 loop-again c =
     let s = c .before .before .before .args in
@@ -61,12 +40,12 @@ gathered-spec =
     Inv-loop
     μ-loop
     loop-holds
-    add-group
-    mul-group
-    shared-slice-read-group
-    mul-group-2
-    array-write-group
-    add-i
-    loop-less
+    (λ c. omega arith)
+    (λ c. omega arith)
+    (λ c. omega arith)
+    (λ c. omega arith)
+    (λ c. omega arith)
+    (λ c. omega arith)
+    (λ c. omega arith)
     loop-again
     returns)

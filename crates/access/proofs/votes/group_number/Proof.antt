@@ -24,27 +24,12 @@ abbrev μ-loop : tie.MeasureT-loop
 loop-holds : tie.Need-loop-holds Inv-loop μ-loop
 loop-holds c = (search needs, rw (add-zero, sub-zero))
 
-add-at : tie.Need-add-at Inv-loop μ-loop
-add-at c = omega arith
-
-may-read-requires : tie.Need-may-read-requires Inv-loop μ-loop
-may-read-requires c κs = search needs
-
-row-number-requires : tie.Need-row-number-requires Inv-loop μ-loop
-row-number-requires c κs = search needs
-
 returns : tie.Need-returns Inv-loop μ-loop
 returns c =
     let s = c .before .before .before .before .before .before .args in
     let l = c .before .before .before .before .loop in
     let number = c .before .row-number .ensures ∙ ap (λ (may : Bool). firstOf (rowRungs (now (s .rows)) (s .state) may (s .row + l .i))) (c .before .before .may-read .ensures) in
     sym (l .inv .1 ∙ upward-stops (now (s .rows)) (s .state) (s .caller) (s .row) (s .count) (l .i) (omega arith) (λ e. c .if1 .taken (number ∙ e)) ∙ sym number)
-
-add-i : tie.Need-add-i Inv-loop μ-loop
-add-i c = omega arith
-
-loop-less : tie.Need-loop-less Inv-loop μ-loop
-loop-less c = omega arith
 
 loop-again : tie.Need-loop-again Inv-loop μ-loop
 loop-again c =
@@ -66,11 +51,11 @@ group-number-spec =
     Inv-loop
     μ-loop
     loop-holds
-    add-at
-    may-read-requires
-    row-number-requires
+    (λ c. omega arith)
+    (λ c κs. search needs)
+    (λ c κs. search needs)
     returns
-    add-i
-    loop-less
+    (λ c. omega arith)
+    (λ c. omega arith)
     loop-again
     returns-2)

@@ -14,12 +14,6 @@ use Rattle.access.proofs.Upward.{count-low}
 use Rattle.access.proofs.votes.read_vote.Statement.{statement}
 use Rattle.access.proofs.votes.read_vote.Tie as tie
 
-read-vote-number-requires : tie.Need-read-vote-number-requires
-read-vote-number-requires c κs = search needs
-
-refused-requires : tie.Need-refused-requires
-refused-requires c κs = search needs
-
 returns : tie.Need-returns
 unfolding readVote
 returns c = rw (← c .before .before .read-vote-number .ensures, ne-eqb _ _ (c .before .if1 .taken)) (c .refused .ensures)
@@ -29,15 +23,6 @@ gathered-requires c κs =
     let s = c .before .before .before .args in
     let in-range = vote-passed (now (s .rows)) (s .state) (s .caller) (s .row) (s .count) (sym (c .before .read-vote-number .ensures) ∙ c .if1 .left) in
     (in-range .0, count-low (s .count) (in-range .1))
-
-threshold-requires : tie.Need-threshold-requires
-threshold-requires c κs = search needs
-
-vote-requires : tie.Need-vote-requires
-vote-requires c κs = search needs
-
-told-requires : tie.Need-told-requires
-told-requires c κs = search needs
 
 returns-2 : tie.Need-returns-2
 unfolding readVote
@@ -53,11 +38,11 @@ pub read-vote-spec : {M : Type 1} → statement M
 read-vote-spec =
     tie.close
     (tie.spec
-    read-vote-number-requires
-    refused-requires
+    (λ c κs. search needs)
+    (λ c κs. search needs)
     returns
     gathered-requires
-    threshold-requires
-    vote-requires
-    told-requires
+    (λ c κs. search needs)
+    (λ c κs. search needs)
+    (λ c κs. search needs)
     returns-2)

@@ -25,9 +25,6 @@ returns-3 c = simp (eq-eqb _ _ (c .before .before .before .if1 .left), le-ltb _ 
 counted : (c : tie.Joined3) → (eqb (c .before .before .before .before .args .count) 3 || eqb (c .before .before .before .before .args .count) 8) ≡ true
 counted c = ⊎-elim (λ w. rw (ne-eqb _ _ (w .0 .taken), eq-eqb _ _ (w .1 .left))) (λ w. rw (eq-eqb _ _ (w .left))) (c .if3 .came)
 
-cast-if5 : tie.Need-cast-if5
-cast-if5 c = search needs
-
 sub-if5 : tie.Need-sub-if5
 sub-if5 c =
     let low : c .before .before .before .before .args .count ≤ 8 = count-low _ (counted c) in
@@ -75,7 +72,7 @@ read-vote-number-spec =
     returns
     returns-2
     returns-3
-    cast-if5
+    (λ c. search needs)
     sub-if5
     returns-4
     sub-if6

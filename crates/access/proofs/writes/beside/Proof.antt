@@ -16,24 +16,6 @@ use Rattle.chip.specs.Tallies.{_gains_, withGain}
 use Rattle.access.proofs.writes.beside.Statement.{statement}
 use Rattle.access.proofs.writes.beside.Tie as tie
 
-cast-at : tie.Need-cast-at
-cast-at c = search needs
-
-mul-tally : tie.Need-mul-tally
-mul-tally c = search needs
-
-array-read-tally : tie.Need-array-read-tally
-array-read-tally c = search needs
-
-tally-requires : tie.Need-tally-requires
-tally-requires c κs = search needs
-
-mul-tallies : tie.Need-mul-tallies
-mul-tallies c = search needs
-
-array-write-tallies : tie.Need-array-write-tallies
-array-write-tallies c = search needs
-
 returns : tie.Need-returns
 returns c =
     let s = c .before .before .before .args in
@@ -52,10 +34,10 @@ pub beside-spec : {M : Type 1} → statement M
 beside-spec =
     tie.close
     (tie.spec
-    cast-at
-    mul-tally
-    array-read-tally
-    tally-requires
-    mul-tallies
-    array-write-tallies
+    (λ c. search needs)
+    (λ c. search needs)
+    (λ c. search needs)
+    (λ c κs. search needs)
+    (λ c. search needs)
+    (λ c. search needs)
     returns)

@@ -5,32 +5,17 @@ use borrow.Author.Tests.{eq-eqb, ne-eqb}
 use Rattle.access.proofs.writes.burn.Statement.{statement}
 use Rattle.access.proofs.writes.burn.Tie as tie
 
-refused-requires : tie.Need-refused-requires
-refused-requires c κs = search needs
-
 returns : tie.Need-returns
 returns c = (
   simp (ne-eqb _ _ (c .before .if1 .taken)) (c .refused .ensures),
   simp (ne-eqb _ _ (c .before .if1 .taken)),
 )
 
-refused-requires-2 : tie.Need-refused-requires-2
-refused-requires-2 c κs = search needs
-
 returns-2 : tie.Need-returns-2
 returns-2 c = (
   simp (eq-eqb _ _ (c .before .before .if1 .left), ne-eqb _ _ (c .before .if2 .taken)) (c .refused2 .ensures),
   simp (eq-eqb _ _ (c .before .before .if1 .left), ne-eqb _ _ (c .before .if2 .taken)),
 )
-
-put-requires : tie.Need-put-requires
-put-requires c κs = search needs
-
-spent-requires : tie.Need-spent-requires
-spent-requires c κs = search needs
-
-same-length : tie.Need-same-length
-same-length c = search needs
 
 returns-3 : tie.Need-returns-3
 returns-3 c = (
@@ -42,11 +27,11 @@ pub burn-spec : {M : Type 1} → statement M
 burn-spec =
     tie.close
     (tie.spec
-    refused-requires
+    (λ c κs. search needs)
     returns
-    refused-requires-2
+    (λ c κs. search needs)
     returns-2
-    put-requires
-    spent-requires
-    same-length
+    (λ c κs. search needs)
+    (λ c κs. search needs)
+    (λ c. search needs)
     returns-3)

@@ -22,30 +22,6 @@ use Rattle.access.proofs.Staying.{leaves}
 use Rattle.access.proofs.writes.write_ecc.Statement.{statement}
 use Rattle.access.proofs.writes.write_ecc.Tie as tie
 
-may-write-requires : tie.Need-may-write-requires
-may-write-requires c κs = search needs
-
-call-number-requires : tie.Need-call-number-requires
-call-number-requires c κs = search needs
-
-row-at-requires : tie.Need-row-at-requires
-row-at-requires c κs = search needs
-
-cast-write-ecc : tie.Need-cast-write-ecc
-cast-write-ecc c = search needs
-
-write-ecc-requires : tie.Need-write-ecc-requires
-write-ecc-requires c κs = search needs
-
-burn-requires : tie.Need-burn-requires
-burn-requires c κs = search needs
-
-beside-requires : tie.Need-beside-requires
-beside-requires c κs = search needs
-
-same-length : tie.Need-same-length
-same-length c = search needs
-
 returns : tie.Need-returns
 unfolding writeEcc callRungs rowRungs refusing
 returns c =
@@ -67,12 +43,12 @@ pub write-ecc-spec : {M : Type 1} → statement M
 write-ecc-spec =
     tie.close
     (tie.spec
-    may-write-requires
-    call-number-requires
-    row-at-requires
-    cast-write-ecc
-    write-ecc-requires
-    burn-requires
-    beside-requires
-    same-length
+    (λ c κs. search needs)
+    (λ c κs. search needs)
+    (λ c κs. search needs)
+    (λ c. search needs)
+    (λ c κs. search needs)
+    (λ c κs. search needs)
+    (λ c κs. search needs)
+    (λ c. search needs)
     returns)

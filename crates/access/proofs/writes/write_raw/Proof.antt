@@ -16,27 +16,6 @@ use Rattle.access.proofs.Staying.{leaves}
 use Rattle.access.proofs.writes.write_raw.Statement.{statement}
 use Rattle.access.proofs.writes.write_raw.Tie as tie
 
-may-write-requires : tie.Need-may-write-requires
-may-write-requires c κs = search needs
-
-call-number-requires : tie.Need-call-number-requires
-call-number-requires c κs = search needs
-
-row-at-requires : tie.Need-row-at-requires
-row-at-requires c κs = search needs
-
-write-raw-requires : tie.Need-write-raw-requires
-write-raw-requires c κs = search needs
-
-burn-requires : tie.Need-burn-requires
-burn-requires c κs = search needs
-
-beside-requires : tie.Need-beside-requires
-beside-requires c κs = search needs
-
-same-length : tie.Need-same-length
-same-length c = search needs
-
 returns : tie.Need-returns
 unfolding writeRaw
 returns c =
@@ -52,11 +31,11 @@ pub write-raw-spec : {M : Type 1} → statement M
 write-raw-spec =
     tie.close
     (tie.spec
-    may-write-requires
-    call-number-requires
-    row-at-requires
-    write-raw-requires
-    burn-requires
-    beside-requires
-    same-length
+    (λ c κs. search needs)
+    (λ c κs. search needs)
+    (λ c κs. search needs)
+    (λ c κs. search needs)
+    (λ c κs. search needs)
+    (λ c κs. search needs)
+    (λ c. search needs)
     returns)

@@ -10,41 +10,17 @@ Inv-loop rows state range first past held₀ row₀ held row = Unit
 abbrev μ-loop : tie.MeasureT-loop
 μ-loop rows state range first past held₀ row₀ held row = past - row
 
-loop-holds : tie.Need-loop-holds Inv-loop μ-loop
-loop-holds c = search needs
-
-row-at-requires : tie.Need-row-at-requires Inv-loop μ-loop
-row-at-requires c κs = search needs
-
-line-requires : tie.Need-line-requires Inv-loop μ-loop
-line-requires c κs = search needs
-
-one-more-requires : tie.Need-one-more-requires Inv-loop μ-loop
-one-more-requires c κs = search needs
-
-add-row : tie.Need-add-row Inv-loop μ-loop
-add-row c = search needs
-
-loop-less : tie.Need-loop-less Inv-loop μ-loop
-loop-less c = search needs
-
-loop-again : tie.Need-loop-again Inv-loop μ-loop
-loop-again c = search needs
-
-returns : tie.Need-returns Inv-loop μ-loop
-returns c = search needs
-
 pub lines-spec : {M : Type 1} → statement M
 lines-spec =
     tie.close
     (tie.spec
     Inv-loop
     μ-loop
-    loop-holds
-    row-at-requires
-    line-requires
-    one-more-requires
-    add-row
-    loop-less
-    loop-again
-    returns)
+    (λ c. search needs)
+    (λ c κs. search needs)
+    (λ c κs. search needs)
+    (λ c κs. search needs)
+    (λ c. search needs)
+    (λ c. search needs)
+    (λ c. search needs)
+    (λ c. search needs))

@@ -10,25 +10,7 @@ Inv-loop state at₀ at = Unit
 abbrev μ-loop : tie.MeasureT-loop
 μ-loop state at₀ at = 6 - at
 
-loop-holds : tie.Need-loop-holds Inv-loop μ-loop
-loop-holds c = search needs
-
-key-line-requires : tie.Need-key-line-requires Inv-loop μ-loop
-key-line-requires c κs = search needs
-
-add-at : tie.Need-add-at Inv-loop μ-loop
-add-at c = search needs
-
-loop-less : tie.Need-loop-less Inv-loop μ-loop
-loop-less c = search needs
-
-loop-again : tie.Need-loop-again Inv-loop μ-loop
-loop-again c = search needs
-
-returns : tie.Need-returns Inv-loop μ-loop
-returns c = search needs
-
 pub key-lines-spec : {M : Type 1} → statement M
 key-lines-spec =
     tie.close
-    (tie.spec Inv-loop μ-loop loop-holds key-line-requires add-at loop-less loop-again returns)
+    (tie.spec Inv-loop μ-loop (λ c. search needs) (λ c κs. search needs) (λ c. search needs) (λ c. search needs) (λ c. search needs) (λ c. search needs))

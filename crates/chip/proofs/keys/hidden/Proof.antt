@@ -17,15 +17,6 @@ returns-2 : tie.Need-returns-2
 unfolding hidden
 returns-2 c = simp (le-leb _ _ (c .before .if1 .left), le-ltb _ _ (c .if2 .taken))
 
-cast-at : tie.Need-cast-at
-cast-at c = search needs
-
-mul-key : tie.Need-mul-key
-mul-key c = search needs
-
-array-copy-out-key : tie.Need-array-copy-out-key
-array-copy-out-key c = search needs
-
 returns-3 : tie.Need-returns-3
 unfolding hidden
 returns-3 c =
@@ -34,4 +25,4 @@ returns-3 c =
     simp (le-leb _ _ (c .before .before .before .if1 .left), lt-ltb _ _ (c .before .before .if2 .left), at)
 
 pub hidden-spec : {M : Type 1} → statement M
-hidden-spec = tie.close (tie.spec returns returns-2 cast-at mul-key array-copy-out-key returns-3)
+hidden-spec = tie.close (tie.spec returns returns-2 (λ c. search needs) (λ c. search needs) (λ c. search needs) returns-3)

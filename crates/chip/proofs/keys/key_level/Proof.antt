@@ -12,18 +12,9 @@ use Rattle.chip.specs.Keys.{keyLevel}
 use Rattle.chip.proofs.keys.key_level.Statement.{statement}
 use Rattle.chip.proofs.keys.key_level.Tie as tie
 
-counted-index-requires : tie.Need-counted-index-requires
-counted-index-requires c κs = search needs
-
-counted-index-requires-2 : tie.Need-counted-index-requires-2
-counted-index-requires-2 c κs = search needs
-
 returns : tie.Need-returns
 unfolding keyLevel
 returns c = rw (← c .before .before .before .counted-index .ensures, ← c .before .before .counted-index2 .ensures, eq-eqb _ _ (c .before .if1 .taken), eq-eqb (c .before .before .counted-index2 .result) 0 (c .if2 .taken))
-
-matches-requires : tie.Need-matches-requires
-matches-requires c κs = search needs
 
 -- where the code goes on, some index is registered
 registered : (c : tie.Joined1) → (eqb (c .before .before .counted-index .result) 0 && eqb (c .before .counted-index2 .result) 0) ≡ false
@@ -32,12 +23,6 @@ registered c = ⊎-elim (λ w. rw (eq-eqb _ _ (w .0 .taken), ne-eqb _ _ (w .1 .l
 returns-2 : tie.Need-returns-2
 unfolding keyLevel
 returns-2 c = rw (← c .before .before .before .before .counted-index .ensures, ← c .before .before .before .counted-index2 .ensures, registered (c .before .before), ← c .before .matches .ensures, c .if3 .taken)
-
-matches-requires-2 : tie.Need-matches-requires-2
-matches-requires-2 c κs = search needs
-
-counted-no-key-requires : tie.Need-counted-no-key-requires
-counted-no-key-requires c κs = search needs
 
 -- level 1 is that of a read key that matches or of no-key state 0, and level 2 is neither's
 by-read-key : (matched closed t : Bool) → (matched || not closed) ≡ t → _≡_ {A = ℕ} (if t then 1 else 2) (if matched then 1 else if closed then 2 else 1)
@@ -63,12 +48,12 @@ pub key-level-spec : {M : Type 1} → statement M
 key-level-spec =
     tie.close
     (tie.spec
-    counted-index-requires
-    counted-index-requires-2
+    (λ c κs. search needs)
+    (λ c κs. search needs)
     returns
-    matches-requires
+    (λ c κs. search needs)
     returns-2
-    matches-requires-2
-    counted-no-key-requires
+    (λ c κs. search needs)
+    (λ c κs. search needs)
     returns-3
     returns-4)

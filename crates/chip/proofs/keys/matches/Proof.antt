@@ -18,27 +18,12 @@ returns-2 : tie.Need-returns-2
 unfolding matches
 returns-2 c = simp (le-leb _ _ (c .before .if1 .left), lt-leb _ _ (c .if2 .taken))
 
-cast-at : tie.Need-cast-at
-cast-at c = search needs
-
-mul-key : tie.Need-mul-key
-mul-key c = search needs
-
-array-copy-out-key : tie.Need-array-copy-out-key
-array-copy-out-key c = search needs
-
 returns-3 : tie.Need-returns-3
 unfolding matches
 returns-3 c =
     let s = c .before .before .before .before .before .before .args in
     let valid : keyAt (s .state) (s .index) .valid ≡ false = not-true _ (c .if3 .taken) in
     simp (le-leb _ _ (c .before .before .before .before .before .if1 .left), le-leb _ _ (c .before .before .before .before .if2 .left), valid)
-
-same-requires : tie.Need-same-requires
-same-requires c κs = search needs
-
-same-requires-2 : tie.Need-same-requires-2
-same-requires-2 c κs = search needs
 
 returns-4 : tie.Need-returns-4
 unfolding matches
@@ -53,10 +38,10 @@ matches-spec =
     (tie.spec
     returns
     returns-2
-    cast-at
-    mul-key
-    array-copy-out-key
+    (λ c. search needs)
+    (λ c. search needs)
+    (λ c. search needs)
     returns-3
-    same-requires
-    same-requires-2
+    (λ c κs. search needs)
+    (λ c κs. search needs)
     returns-4)

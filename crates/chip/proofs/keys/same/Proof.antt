@@ -48,24 +48,6 @@ abbrev μ-loop : tie.MeasureT-loop
 loop-holds : tie.Need-loop-holds Inv-loop μ-loop
 loop-holds c = (search needs, refl)
 
-mul-differing : tie.Need-mul-differing Inv-loop μ-loop
-mul-differing c = omega arith
-
-array-read-differing : tie.Need-array-read-differing Inv-loop μ-loop
-array-read-differing c = omega arith
-
-mul-differing-2 : tie.Need-mul-differing-2 Inv-loop μ-loop
-mul-differing-2 c = omega arith
-
-array-read-differing-2 : tie.Need-array-read-differing-2 Inv-loop μ-loop
-array-read-differing-2 c = omega arith
-
-add-i : tie.Need-add-i Inv-loop μ-loop
-add-i c = omega arith
-
-loop-less : tie.Need-loop-less Inv-loop μ-loop
-loop-less c = omega arith
-
 loop-again : tie.Need-loop-again Inv-loop μ-loop
 loop-again c =
     let s = c .before .before in
@@ -91,11 +73,11 @@ same-spec =
     Inv-loop
     μ-loop
     loop-holds
-    mul-differing
-    array-read-differing
-    mul-differing-2
-    array-read-differing-2
-    add-i
-    loop-less
+    (λ c. omega arith)
+    (λ c. omega arith)
+    (λ c. omega arith)
+    (λ c. omega arith)
+    (λ c. omega arith)
+    (λ c. omega arith)
     loop-again
     returns)

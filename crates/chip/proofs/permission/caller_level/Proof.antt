@@ -6,16 +6,10 @@ use Rattle.chip.specs.Callers.{shownLevel}
 use Rattle.chip.proofs.permission.caller_level.Statement.{statement}
 use Rattle.chip.proofs.permission.caller_level.Tie as tie
 
-owner-requires : tie.Need-owner-requires
-owner-requires c κs = search needs
-
-shown-level-requires : tie.Need-shown-level-requires
-shown-level-requires c κs = search needs
-
 returns : tie.Need-returns
 returns c =
     let a = c .before .before .args in
     c .shown-level .ensures ∙ ap (shownLevel (a .state) (a .caller)) (c .before .owner .ensures)
 
 pub caller-level-spec : {M : Type 1} → statement M
-caller-level-spec = tie.close (tie.spec owner-requires shown-level-requires returns)
+caller-level-spec = tie.close (tie.spec (λ c κs. search needs) (λ c κs. search needs) returns)

@@ -12,17 +12,11 @@ returns : tie.Need-returns
 unfolding mayRead
 returns c = simp (le-leb _ _ (c .if1 .taken))
 
-read-level-requires : tie.Need-read-level-requires
-read-level-requires c κs = search needs
-
 returns-2 : tie.Need-returns-2
 unfolding mayRead
 returns-2 c =
     rw (← c .before .read-level .ensures, lt-leb _ _ (c .before .before .if1 .left))
     (sym (max-high (c .before .read-level .result) _ 1 (c .if2 .taken)))
-
-row-key-level-requires : tie.Need-row-key-level-requires
-row-key-level-requires c κs = search needs
 
 returns-3 : tie.Need-returns-3
 unfolding mayRead
@@ -32,4 +26,4 @@ returns-3 c =
 
 pub may-read-spec : {M : Type 1} → statement M
 may-read-spec =
-    tie.close (tie.spec returns read-level-requires returns-2 row-key-level-requires returns-3)
+    tie.close (tie.spec returns (λ c κs. search needs) returns-2 (λ c κs. search needs) returns-3)

@@ -7,15 +7,9 @@ use Rattle.chip.specs.Permission.{callerLevel, mayWrite}
 use Rattle.chip.proofs.permission.may_write.Statement.{statement}
 use Rattle.chip.proofs.permission.may_write.Tie as tie
 
-caller-level-requires : tie.Need-caller-level-requires
-caller-level-requires c κs = search needs
-
 returns : tie.Need-returns
 unfolding mayWrite
 returns c = rw (← c .before .caller-level .ensures, ne-eqb _ _ (c .if1 .taken))
-
-caller-level-requires-2 : tie.Need-caller-level-requires-2
-caller-level-requires-2 c κs = search needs
 
 returns-2 : tie.Need-returns-2
 unfolding mayWrite
@@ -23,9 +17,6 @@ returns-2 c =
     let a = c .before .before .before .before .args in
     let as-secure : c .before .caller-level2 .result ≡ callerLevel (a .state) 0 (a .row) = c .before .caller-level2 .ensures in
     rw (← c .before .before .before .caller-level .ensures, eq-eqb _ _ (c .before .before .if1 .left), ← as-secure, ne-eqb _ _ (c .if2 .taken))
-
-row-key-level-requires : tie.Need-row-key-level-requires
-row-key-level-requires c κs = search needs
 
 returns-3 : tie.Need-returns-3
 unfolding mayWrite
@@ -35,9 +26,9 @@ pub may-write-spec : {M : Type 1} → statement M
 may-write-spec =
     tie.close
     (tie.spec
-    caller-level-requires
+    (λ c κs. search needs)
     returns
-    caller-level-requires-2
+    (λ c κs. search needs)
     returns-2
-    row-key-level-requires
+    (λ c κs. search needs)
     returns-3)

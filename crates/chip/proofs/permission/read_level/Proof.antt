@@ -8,12 +8,6 @@ use Rattle.chip.specs.Permission.{callerLevel}
 use Rattle.chip.proofs.permission.read_level.Statement.{statement}
 use Rattle.chip.proofs.permission.read_level.Tie as tie
 
-caller-level-requires : tie.Need-caller-level-requires
-caller-level-requires c κs = search needs
-
-caller-level-requires-2 : tie.Need-caller-level-requires-2
-caller-level-requires-2 c κs = search needs
-
 returns : tie.Need-returns
 returns c =
     let a = c .before .before .before .before .args in
@@ -33,4 +27,4 @@ returns-3 c = rw (ne-eqb _ _ (c .if1 .left)) (c .before .caller-level .ensures)
 
 pub read-level-spec : {M : Type 1} → statement M
 read-level-spec =
-    tie.close (tie.spec caller-level-requires caller-level-requires-2 returns returns-2 returns-3)
+    tie.close (tie.spec (λ c κs. search needs) (λ c κs. search needs) returns returns-2 returns-3)

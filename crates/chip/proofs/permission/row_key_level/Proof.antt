@@ -6,14 +6,8 @@ use Rattle.chip.specs.Keys.{keyLevel}
 use Rattle.chip.proofs.permission.row_key_level.Statement.{statement}
 use Rattle.chip.proofs.permission.row_key_level.Tie as tie
 
-key-page-requires : tie.Need-key-page-requires
-key-page-requires c κs = search needs
-
-key-level-requires : tie.Need-key-level-requires
-key-level-requires c κs = search needs
-
 returns : tie.Need-returns
 returns c = c .key-level .ensures ∙ ap (keyLevel (c .before .before .args .state)) (c .before .key-page .ensures)
 
 pub row-key-level-spec : {M : Type 1} → statement M
-row-key-level-spec = tie.close (tie.spec key-page-requires key-level-requires returns)
+row-key-level-spec = tie.close (tie.spec (λ c κs. search needs) (λ c κs. search needs) returns)

@@ -10,26 +10,17 @@ use Rattle.chip.proofs.Lists.{getD-in}
 use Rattle.chip.proofs.state.counted_level.Statement.{statement}
 use Rattle.chip.proofs.state.counted_level.Tie as tie
 
-cast-at : tie.Need-cast-at
-cast-at c = search needs
-
 returns : tie.Need-returns
 returns c =
     let a = c .before .before .args in
     let long : length (a .t1) ≡ 64 = c .before .before .good .0 .1 .0 .1 in
     sym (ap (λ (level : ℕ). min level 2) (List·getD-eq-default (a .t1) 2 (omega arith)))
 
-array-read-level : tie.Need-array-read-level
-array-read-level c = search needs
-
 returns-2 : tie.Need-returns-2
 returns-2 c =
     let a = c .before .before .before .args in
     let long : length (a .t1) ≡ 64 = c .before .before .before .good .0 .1 .0 .1 in
     sym (ap (λ (level : ℕ). min level 2) (getD-in (a .t1) (a .page .number) 2 0 (omega arith)) ∙ min-eq-right (omega arith))
-
-cast-result : tie.Need-cast-result
-cast-result c = search needs
 
 returns-3 : tie.Need-returns-3
 returns-3 c =
@@ -39,4 +30,4 @@ returns-3 c =
 
 pub counted-level-spec : {M : Type 1} → statement M
 counted-level-spec =
-    tie.close (tie.spec cast-at returns array-read-level returns-2 cast-result returns-3)
+    tie.close (tie.spec (λ c. search needs) returns (λ c. search needs) returns-2 (λ c. search needs) returns-3)

@@ -4,11 +4,8 @@ use borrow.Author.Needs.{needs}
 use Rattle.chip.proofs.state.refusal.Statement.{statement}
 use Rattle.chip.proofs.state.refusal.Tie as tie
 
-refused-requires : tie.Need-refused-requires
-refused-requires c κs = search needs
-
 returns : tie.Need-returns
 returns c = simp (c .refused .ensures)
 
 pub refusal-spec : {M : Type 1} → statement M
-refusal-spec = tie.close (tie.spec refused-requires returns)
+refusal-spec = tie.close (tie.spec (λ c κs. search needs) returns)

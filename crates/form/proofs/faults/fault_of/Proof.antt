@@ -10,26 +10,11 @@ use Rattle.form.proofs.Faulty.{head-stops, form-stops-all, order-last}
 use Rattle.form.proofs.faults.fault_of.Statement.{statement}
 use Rattle.form.proofs.faults.fault_of.Tie as tie
 
-head-fault-requires : tie.Need-head-fault-requires
-head-fault-requires c κs = search needs
-
-fault-number-requires : tie.Need-fault-number-requires
-fault-number-requires c κs = search needs
-
 returns : tie.Need-returns
 returns c =
     let job = now (c .before .before .before .before .args .job) in
     let head = c .before .before .head-fault .ensures in
     head ∙ sym (head-stops job (λ e. c .if1 .taken (c .before .fault-number .ensures ∙ ap faultNumber head ∙ e)))
-
-count-of-requires : tie.Need-count-of-requires
-count-of-requires c κs = search needs
-
-form-faults-requires : tie.Need-form-faults-requires
-form-faults-requires c κs = search needs
-
-fault-number-requires-2 : tie.Need-fault-number-requires-2
-fault-number-requires-2 c κs = search needs
 
 returns-2 : tie.Need-returns-2
 returns-2 c =
@@ -37,9 +22,6 @@ returns-2 c =
     let head = sym (ap faultNumber (c .before .before .before .before .before .before .head-fault .ensures)) ∙ sym (c .before .before .before .before .before .fault-number .ensures) ∙ c .before .before .before .before .if1 .left in
     let form = c .before .before .form-faults .ensures ∙ ap (λ (n : ℕ). formFaults 0 (entriesFrom job 0 n)) (c .before .before .before .count-of .ensures .0) in
     form ∙ sym (form-stops-all job head (λ e. c .if2 .taken (c .before .fault-number2 .ensures ∙ ap faultNumber form ∙ e)))
-
-order-faults-requires : tie.Need-order-faults-requires
-order-faults-requires c κs = search needs
 
 returns-3 : tie.Need-returns-3
 returns-3 c =
@@ -54,12 +36,12 @@ pub fault-of-spec : {M : Type 1} → statement M
 fault-of-spec =
     tie.close
     (tie.spec
-    head-fault-requires
-    fault-number-requires
+    (λ c κs. search needs)
+    (λ c κs. search needs)
     returns
-    count-of-requires
-    form-faults-requires
-    fault-number-requires-2
+    (λ c κs. search needs)
+    (λ c κs. search needs)
+    (λ c κs. search needs)
     returns-2
-    order-faults-requires
+    (λ c κs. search needs)
     returns-3)

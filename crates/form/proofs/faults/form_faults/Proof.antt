@@ -22,15 +22,6 @@ abbrev μ-loop : tie.MeasureT-loop
 loop-holds : tie.Need-loop-holds Inv-loop μ-loop
 loop-holds c = (search needs, ap (formFaults 0) (all-left (now (c .before .args .job)) (c .before .args .count)))
 
-entry-at-requires : tie.Need-entry-at-requires Inv-loop μ-loop
-entry-at-requires c κs = search needs
-
-form-fault-requires : tie.Need-form-fault-requires Inv-loop μ-loop
-form-fault-requires c κs = search needs
-
-fault-number-requires : tie.Need-fault-number-requires Inv-loop μ-loop
-fault-number-requires c κs = search needs
-
 returns : tie.Need-returns Inv-loop μ-loop
 returns c =
     let s = c .before .before .before .before .before .before .before .args in
@@ -38,12 +29,6 @@ returns c =
     let fault = c .before .before .form-fault .ensures ∙ ap (formFault (l .i)) (c .before .before .before .entry-at .ensures) in
     let number = c .before .fault-number .ensures ∙ ap faultNumber fault in
     sym (l .inv .1 ∙ form-stops (now (s .job)) (s .count) (l .i) (omega arith) (λ e. c .if1 .taken (number ∙ e)) ∙ sym fault)
-
-add-i : tie.Need-add-i Inv-loop μ-loop
-add-i c = omega arith
-
-loop-less : tie.Need-loop-less Inv-loop μ-loop
-loop-less c = omega arith
 
 loop-again : tie.Need-loop-again Inv-loop μ-loop
 loop-again c =
@@ -67,11 +52,11 @@ form-faults-spec =
     Inv-loop
     μ-loop
     loop-holds
-    entry-at-requires
-    form-fault-requires
-    fault-number-requires
+    (λ c κs. search needs)
+    (λ c κs. search needs)
+    (λ c κs. search needs)
     returns
-    add-i
-    loop-less
+    (λ c. omega arith)
+    (λ c. omega arith)
     loop-again
     returns-2)

@@ -19,9 +19,6 @@ returns : tie.Need-returns
 unfolding headFault
 returns c = rw (lt-ltb _ _ (c .if1 .taken))
 
-marked-requires : tie.Need-marked-requires
-marked-requires c κs = search needs
-
 returns-2 : tie.Need-returns-2
 unfolding headFault
 returns-2 c =
@@ -30,9 +27,6 @@ returns-2 c =
       ← c .before .marked .ensures,
       not-true (c .before .marked .result) (c .if2 .taken),
     )
-
-version-of-requires : tie.Need-version-of-requires
-version-of-requires c κs = search needs
 
 returns-3 : tie.Need-returns-3
 unfolding headFault
@@ -44,9 +38,6 @@ returns-3 c =
       ← c .before .version-of .ensures,
       ne-eqb _ 1 (c .if3 .taken),
     )
-
-count-of-requires : tie.Need-count-of-requires
-count-of-requires c κs = search needs
 
 abbrev job-of : tie.After-count-of → List ℕ
 job-of c = now (c .before .before .before .before .before .before .before .args .job)
@@ -69,15 +60,6 @@ count-left c =
 returns-4 : tie.Need-returns-4
 returns-4 c = rw (count-left (c .before), lt-ltb 512 _ (c .if4 .taken))
 
-cast-if5 : tie.Need-cast-if5
-cast-if5 c = search needs
-
-mul-if5 : tie.Need-mul-if5
-mul-if5 c = search needs
-
-add-if5 : tie.Need-add-if5
-add-if5 c = search needs
-
 returns-5 : tie.Need-returns-5
 returns-5 c = rw (count-left (c .before .before), le-ltb _ _ (c .before .if4 .left), ne-eqb _ _ (c .if5 .taken))
 
@@ -89,14 +71,14 @@ head-fault-spec =
     tie.close
     (tie.spec
     returns
-    marked-requires
+    (λ c κs. search needs)
     returns-2
-    version-of-requires
+    (λ c κs. search needs)
     returns-3
-    count-of-requires
+    (λ c κs. search needs)
     returns-4
-    cast-if5
-    mul-if5
-    add-if5
+    (λ c. search needs)
+    (λ c. search needs)
+    (λ c. search needs)
     returns-5
     returns-6)

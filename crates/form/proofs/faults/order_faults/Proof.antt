@@ -23,15 +23,6 @@ abbrev μ-loop : tie.MeasureT-loop
 loop-holds : tie.Need-loop-holds Inv-loop μ-loop
 loop-holds c = (search needs, ap (orderFaults 0 0) (all-left (now (c .before .args .job)) (c .before .args .count)))
 
-entry-at-requires : tie.Need-entry-at-requires Inv-loop μ-loop
-entry-at-requires c κs = search needs
-
-order-fault-requires : tie.Need-order-fault-requires Inv-loop μ-loop
-order-fault-requires c κs = search needs
-
-fault-number-requires : tie.Need-fault-number-requires Inv-loop μ-loop
-fault-number-requires c κs = search needs
-
 returns : tie.Need-returns Inv-loop μ-loop
 returns c =
     let s = c .before .before .before .before .before .before .before .args in
@@ -47,12 +38,6 @@ add-least c =
     let low : e .row < 0xf40 =
     order-kept (l .i) (l .least) e (sym (ap faultNumber (c .before .before .before .order-fault .ensures)) ∙ sym (c .before .before .fault-number .ensures) ∙ c .before .if1 .left) .0 in
     omega arith
-
-add-i : tie.Need-add-i Inv-loop μ-loop
-add-i c = omega arith
-
-loop-less : tie.Need-loop-less Inv-loop μ-loop
-loop-less c = omega arith
 
 loop-again : tie.Need-loop-again Inv-loop μ-loop
 loop-again c =
@@ -80,12 +65,12 @@ order-faults-spec =
     Inv-loop
     μ-loop
     loop-holds
-    entry-at-requires
-    order-fault-requires
-    fault-number-requires
+    (λ c κs. search needs)
+    (λ c κs. search needs)
+    (λ c κs. search needs)
     returns
     add-least
-    add-i
-    loop-less
+    (λ c. omega arith)
+    (λ c. omega arith)
     loop-again
     returns-2)

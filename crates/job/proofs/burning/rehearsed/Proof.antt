@@ -40,24 +40,6 @@ loop-holds c =
       rw (← all-left (now (s .job)) (s .count), sub-self (s .limit)) (none-ahead (now (s .tallies)) whole),
     )
 
-entry-at-requires : tie.Need-entry-at-requires Inv-loop μ-loop
-entry-at-requires c κs = search needs
-
-row-at-requires : tie.Need-row-at-requires Inv-loop μ-loop
-row-at-requires c κs = search needs
-
-entry-written-requires : tie.Need-entry-written-requires Inv-loop μ-loop
-entry-written-requires c κs = search needs
-
-burnt-upward-requires : tie.Need-burnt-upward-requires Inv-loop μ-loop
-burnt-upward-requires c κs = search needs
-
-put-requires : tie.Need-put-requires Inv-loop μ-loop
-put-requires c κs = search needs
-
-cut-gained-requires : tie.Need-cut-gained-requires Inv-loop μ-loop
-cut-gained-requires c κs = search needs
-
 same-length : tie.Need-same-length Inv-loop μ-loop
 same-length c =
     let l = c .before .before .before .before .before .before .before .before .before .before .before .before .before .before .before .loop in
@@ -93,18 +75,6 @@ returns c =
       sym (stopped .place ∙ add-zero (l .i)),
     )
 
-put-requires-2 : tie.Need-put-requires-2 Inv-loop μ-loop
-put-requires-2 c κs = search needs
-
-gain-requires : tie.Need-gain-requires Inv-loop μ-loop
-gain-requires c κs = search needs
-
-add-i : tie.Need-add-i Inv-loop μ-loop
-add-i c = omega arith
-
-loop-less : tie.Need-loop-less Inv-loop μ-loop
-loop-less c = omega arith
-
 loop-again : tie.Need-loop-again Inv-loop μ-loop
 loop-again c =
     let s = c .before .before .before .before .before .before .before .before .before .before .before .before .before .before .before .before .before .before .args in
@@ -129,9 +99,6 @@ loop-again c =
       ap length (c .before .before .gain .ensures) ∙ length-set (l .tallies) _ _ ∙ l .inv .3,
       rw (counted, ← spent) (one-ahead (now (s .tallies)) _ (l .tallies) (s .limit - l .unspent) (l .i) (entryAt job (l .i) .row gains u) _ burnt),
     )
-
-sub-t27 : tie.Need-sub-t27 Inv-loop μ-loop
-sub-t27 c = omega arith
 
 same-length-3 : tie.Need-same-length-3 Inv-loop μ-loop
 same-length-3 c = c .before .loop .inv .2
@@ -158,21 +125,21 @@ rehearsed-spec =
     Inv-loop
     μ-loop
     loop-holds
-    entry-at-requires
-    row-at-requires
-    entry-written-requires
-    burnt-upward-requires
-    put-requires
-    cut-gained-requires
+    (λ c κs. search needs)
+    (λ c κs. search needs)
+    (λ c κs. search needs)
+    (λ c κs. search needs)
+    (λ c κs. search needs)
+    (λ c κs. search needs)
     same-length
     same-length-2
     returns
-    put-requires-2
-    gain-requires
-    add-i
-    loop-less
+    (λ c κs. search needs)
+    (λ c κs. search needs)
+    (λ c. omega arith)
+    (λ c. omega arith)
     loop-again
-    sub-t27
+    (λ c. omega arith)
     same-length-3
     same-length-4
     returns-2)

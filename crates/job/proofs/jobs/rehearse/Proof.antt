@@ -6,36 +6,12 @@ use Rattle.job.specs.Jobs.{rehearse}
 use Rattle.job.proofs.jobs.rehearse.Statement.{statement}
 use Rattle.job.proofs.jobs.rehearse.Tie as tie
 
-verdict-of-requires : tie.Need-verdict-of-requires
-verdict-of-requires c κs = search needs
-
-refused-at-requires : tie.Need-refused-at-requires
-refused-at-requires c κs = search needs
-
-same-length : tie.Need-same-length
-same-length c = search needs
-
 returns : tie.Need-returns
 unfolding rehearse
 returns c = (
   rw (← c .before .before .verdict-of .ensures, ne-eqb _ _ (c .before .if1 .taken)) (simp (c .refused-at .ensures)),
   rw (← c .before .before .verdict-of .ensures, ne-eqb _ _ (c .before .if1 .taken)),
 )
-
-slice-aggregate-rehearsed : tie.Need-slice-aggregate-rehearsed
-slice-aggregate-rehearsed c = search needs
-
-count-of-requires : tie.Need-count-of-requires
-count-of-requires c κs = search needs
-
-rehearsed-requires : tie.Need-rehearsed-requires
-rehearsed-requires c κs = search needs
-
-spent-requires : tie.Need-spent-requires
-spent-requires c κs = search needs
-
-same-length-2 : tie.Need-same-length-2
-same-length-2 c = search needs
 
 returns-2 : tie.Need-returns-2
 unfolding rehearse
@@ -50,13 +26,13 @@ pub rehearse-spec : {M : Type 1} → statement M
 rehearse-spec =
     tie.close
     (tie.spec
-    verdict-of-requires
-    refused-at-requires
-    same-length
+    (λ c κs. search needs)
+    (λ c κs. search needs)
+    (λ c. search needs)
     returns
-    slice-aggregate-rehearsed
-    count-of-requires
-    rehearsed-requires
-    spent-requires
-    same-length-2
+    (λ c. search needs)
+    (λ c κs. search needs)
+    (λ c κs. search needs)
+    (λ c κs. search needs)
+    (λ c. search needs)
     returns-2)

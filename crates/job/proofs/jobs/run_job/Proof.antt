@@ -8,12 +8,6 @@ use Rattle.job.proofs.Whole.{whole-job}
 use Rattle.job.proofs.jobs.run_job.Statement.{statement}
 use Rattle.job.proofs.jobs.run_job.Tie as tie
 
-rehearse-requires : tie.Need-rehearse-requires
-rehearse-requires c κs = search needs
-
-same-length : tie.Need-same-length
-same-length c = search needs
-
 returns : tie.Need-returns
 returns c =
     let s = c .before .before .before .before .before .before .args in
@@ -21,4 +15,4 @@ returns c =
     (c .before .before .rehearse .ensures .0 ∙ ap (λ (l : Left). l .outcome) whole, c .before .before .rehearse .ensures .1 ∙ ap (λ (l : Left). l .rows) whole)
 
 pub run-job-spec : {M : Type 1} → statement M
-run-job-spec = tie.close (tie.spec rehearse-requires same-length returns)
+run-job-spec = tie.close (tie.spec (λ c κs. search needs) (λ c. search needs) returns)

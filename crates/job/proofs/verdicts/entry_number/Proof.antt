@@ -9,9 +9,6 @@ use Rattle.job.proofs.Fitting.{entry-nine}
 use Rattle.job.proofs.verdicts.entry_number.Statement.{statement}
 use Rattle.job.proofs.verdicts.entry_number.Tie as tie
 
-row-at-requires : tie.Need-row-at-requires
-row-at-requires c κs = search needs
-
 returns : tie.Need-returns
 unfolding entryRungs
 returns c = rw (not-true (c .before .before .before .args .may) (c .if1 .taken))
@@ -20,9 +17,6 @@ returns-2 : tie.Need-returns-2
 unfolding entryRungs
 returns-2 c = rw (not-false (c .before .before .before .before .args .may) (c .before .if1 .left), ← c .before .before .row-at .ensures, lt-ltb _ _ (c .if2 .taken))
 
-entry-written-requires : tie.Need-entry-written-requires
-entry-written-requires c κs = search needs
-
 returns-3 : tie.Need-returns-3
 unfolding entryRungs
 returns-3 c =
@@ -30,4 +24,4 @@ returns-3 c =
     (ap (λ (w : Written). w .number) (c .entry-written .ensures) ∙ entry-nine _ _)
 
 pub entry-number-spec : {M : Type 1} → statement M
-entry-number-spec = tie.close (tie.spec row-at-requires returns returns-2 entry-written-requires returns-3)
+entry-number-spec = tie.close (tie.spec (λ c κs. search needs) returns returns-2 (λ c κs. search needs) returns-3)

@@ -32,9 +32,6 @@ Inv-loop rows state job count may permit₀ i₀ permit i =
 abbrev μ-loop : tie.MeasureT-loop
 μ-loop rows state job count may permit₀ i₀ permit i = count - i
 
-may-write-requires : tie.Need-may-write-requires Inv-loop μ-loop
-may-write-requires c κs = search needs
-
 loop-holds : tie.Need-loop-holds Inv-loop μ-loop
 loop-holds c =
     let s = c .before .before .before .args in (
@@ -43,14 +40,8 @@ loop-holds c =
       ap (λ (es : List Entry). verdict (allRungs (now (s .rows)) (s .state) 0 es)) (all-left (now (s .job)) (s .count)),
     )
 
-entry-at-requires : tie.Need-entry-at-requires Inv-loop μ-loop
-entry-at-requires c κs = search needs
-
 permit-for-requires : tie.Need-permit-for-requires Inv-loop μ-loop
 permit-for-requires c κs = c .before .before .loop .inv .1
-
-entry-number-requires : tie.Need-entry-number-requires Inv-loop μ-loop
-entry-number-requires c κs = search needs
 
 -- what was learnt of the entry is what its definition says, whichever it is
 of-entry : (rows : List ℕ) (state : State) (i : ℕ) (e entry : Entry) (may : Bool) (number : ℕ)
@@ -68,12 +59,6 @@ returns c =
     let number = of-entry (now (s .rows)) (s .state) (l .i) _ _ _ _ (c .before .before .before .entry-at .ensures) (c .before .before .permit-for .ensures .1) (c .before .entry-number .ensures) in
     sym (l .inv .2 ∙ judged-stops (now (s .job)) (s .count) (l .i) (omega arith) (now (s .rows)) (s .state) (λ e. c .if1 .taken (number ∙ e))
     ∙ ap (λ (n : ℕ). at-place n (l .i)) (sym number))
-
-add-i : tie.Need-add-i Inv-loop μ-loop
-add-i c = omega arith
-
-loop-less : tie.Need-loop-less Inv-loop μ-loop
-loop-less c = omega arith
 
 loop-again : tie.Need-loop-again Inv-loop μ-loop
 loop-again c =
@@ -100,13 +85,13 @@ judged-spec =
     (tie.spec
     Inv-loop
     μ-loop
-    may-write-requires
+    (λ c κs. search needs)
     loop-holds
-    entry-at-requires
+    (λ c κs. search needs)
     permit-for-requires
-    entry-number-requires
+    (λ c κs. search needs)
     returns
-    add-i
-    loop-less
+    (λ c. omega arith)
+    (λ c. omega arith)
     loop-again
     returns-2)

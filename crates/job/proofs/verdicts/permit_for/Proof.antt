@@ -6,9 +6,6 @@ use Rattle.chip.proofs.Sharing.{share-write}
 use Rattle.job.proofs.verdicts.permit_for.Statement.{statement}
 use Rattle.job.proofs.verdicts.permit_for.Tie as tie
 
-share-permission-requires : tie.Need-share-permission-requires
-share-permission-requires c κs = search needs
-
 returns : tie.Need-returns
 returns c =
     let s = c .before .before .args in (
@@ -16,12 +13,6 @@ returns c =
       c .before .before .pre ∙ share-write (s .state) 0 (s .before .row) (s .row) (sym (c .before .share-permission .ensures) ∙ c .if1 .taken),
     )
 
-may-write-requires : tie.Need-may-write-requires
-may-write-requires c κs = search needs
-
-returns-2 : tie.Need-returns-2
-returns-2 c = search needs
-
 pub permit-for-spec : {M : Type 1} → statement M
 permit-for-spec =
-    tie.close (tie.spec share-permission-requires returns may-write-requires returns-2)
+    tie.close (tie.spec (λ c κs. search needs) returns (λ c κs. search needs) (λ c. search needs))

@@ -17,12 +17,6 @@ returns : tie.Need-returns
 unfolding verdictOf
 returns c = rw (ne-eqb _ _ (c .if1 .taken))
 
-fault-of-requires : tie.Need-fault-of-requires
-fault-of-requires c κs = search needs
-
-fault-number-requires : tie.Need-fault-number-requires
-fault-number-requires c κs = search needs
-
 returns-2 : tie.Need-returns-2
 unfolding verdictOf
 returns-2 c =
@@ -35,12 +29,6 @@ returns-2 c =
   where
     at-first : ℕ → Verdict
     at-first number = record { number = number; place = 0 }
-
-count-of-requires : tie.Need-count-of-requires
-count-of-requires c κs = search needs
-
-judged-requires : tie.Need-judged-requires
-judged-requires c κs = search needs
 
 returns-3 : tie.Need-returns-3
 unfolding verdictOf
@@ -58,9 +46,9 @@ verdict-of-spec =
     tie.close
     (tie.spec
     returns
-    fault-of-requires
-    fault-number-requires
+    (λ c κs. search needs)
+    (λ c κs. search needs)
     returns-2
-    count-of-requires
-    judged-requires
+    (λ c κs. search needs)
+    (λ c κs. search needs)
     returns-3)

@@ -8,18 +8,9 @@ use Rattle.latch.proofs.Ladders.{advance-passed}
 use Rattle.latch.proofs.calls.advance.Statement.{statement}
 use Rattle.latch.proofs.calls.advance.Tie as tie
 
-advance-number-requires : tie.Need-advance-number-requires
-advance-number-requires c κs = search needs
-
-refusal-requires : tie.Need-refusal-requires
-refusal-requires c κs = search needs
-
 returns : tie.Need-returns
 unfolding advance
 returns c = rw (← c .before .before .advance-number .ensures, ne-eqb _ _ (c .before .if1 .taken)) (c .refusal .ensures)
-
-done-requires : tie.Need-done-requires
-done-requires c κs = search needs
 
 advanced-requires : tie.Need-advanced-requires
 advanced-requires c κs =
@@ -36,9 +27,9 @@ pub advance-spec : {M : Type 1} → statement M
 advance-spec =
     tie.close
     (tie.spec
-    advance-number-requires
-    refusal-requires
+    (λ c κs. search needs)
+    (λ c κs. search needs)
     returns
-    done-requires
+    (λ c κs. search needs)
     advanced-requires
     returns-2)

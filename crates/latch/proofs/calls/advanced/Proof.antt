@@ -16,28 +16,10 @@ above : (state : State) (domain page level shown : ℕ) → shown ≡ shownLevel
     → leb level (shownLevel state domain page) ≡ false
 above state domain page level shown as-shown higher = ap (leb level) (sym as-shown) ∙ lt-leb level shown higher
 
-cast-t8 : tie.Need-cast-t8
-cast-t8 c = search needs
-
-shown-level-requires : tie.Need-shown-level-requires
-shown-level-requires c κs = search needs
-
-cast-next : tie.Need-cast-next
-cast-next c = search needs
-
-element-write-next : tie.Need-element-write-next
-element-write-next c = search needs
-
 returns : tie.Need-returns
 returns c =
     let a = c .before .before .before .args in
     rw (above (a .state) (a .domain) (a .page) (a .level) _ (c .before .before .shown-level .ensures) (c .before .if1 .taken), eq-eqb _ _ (c .if2 .taken))
-
-cast-next-2 : tie.Need-cast-next-2
-cast-next-2 c = search needs
-
-element-write-next-2 : tie.Need-element-write-next-2
-element-write-next-2 c = search needs
 
 returns-2 : tie.Need-returns-2
 returns-2 c =
@@ -56,12 +38,12 @@ pub advanced-spec : {M : Type 1} → statement M
 advanced-spec =
     tie.close
     (tie.spec
-    cast-t8
-    shown-level-requires
-    cast-next
-    element-write-next
-    cast-next-2
-    element-write-next-2
+    (λ c. search needs)
+    (λ c κs. search needs)
+    (λ c. search needs)
+    (λ c. search needs)
+    (λ c. search needs)
+    (λ c. search needs)
     returns
     returns-2
     returns-3

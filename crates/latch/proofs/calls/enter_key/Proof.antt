@@ -9,12 +9,6 @@ use Rattle.latch.proofs.Ladders.{enter-passed}
 use Rattle.latch.proofs.calls.enter_key.Statement.{statement}
 use Rattle.latch.proofs.calls.enter_key.Tie as tie
 
-enter-number-requires : tie.Need-enter-number-requires
-enter-number-requires c κs = search needs
-
-refusal-requires : tie.Need-refusal-requires
-refusal-requires c κs = search needs
-
 returns : tie.Need-returns
 unfolding enterKey
 returns c = rw (← c .before .before .enter-number .ensures, ne-eqb _ _ (c .before .if1 .taken)) (c .refusal .ensures)
@@ -23,9 +17,6 @@ key-words-requires : tie.Need-key-words-requires
 key-words-requires c κs =
     let a = c .before .before .before .args in
     enter-passed (a .caller) (now (a .key)) (sym (c .before .enter-number .ensures) ∙ c .if1 .left)
-
-done-requires : tie.Need-done-requires
-done-requires c κs = search needs
 
 returns-2 : tie.Need-returns-2
 unfolding enterKey
@@ -37,9 +28,9 @@ pub enter-key-spec : {M : Type 1} → statement M
 enter-key-spec =
     tie.close
     (tie.spec
-    enter-number-requires
-    refusal-requires
+    (λ c κs. search needs)
+    (λ c κs. search needs)
     returns
     key-words-requires
-    done-requires
+    (λ c κs. search needs)
     returns-2)

@@ -23,23 +23,8 @@ loop-holds : tie.Need-loop-holds Inv-loop μ-loop
 unfolding listed
 loop-holds c = (search needs, search needs, refl)
 
-mul-words : tie.Need-mul-words Inv-loop μ-loop
-mul-words c = omega arith
-
-shared-slice-read-words : tie.Need-shared-slice-read-words Inv-loop μ-loop
-shared-slice-read-words c = omega arith
-
 cast-words : tie.Need-cast-words Inv-loop μ-loop
 cast-words c = omega (arith, c .shared-slice-known .given (2 * c .before .before .loop .i))
-
-mul-words-2 : tie.Need-mul-words-2 Inv-loop μ-loop
-mul-words-2 c = omega arith
-
-add-words : tie.Need-add-words Inv-loop μ-loop
-add-words c = omega arith
-
-shared-slice-read-words-2 : tie.Need-shared-slice-read-words-2 Inv-loop μ-loop
-shared-slice-read-words-2 c = omega arith
 
 cast-words-2 : tie.Need-cast-words-2 Inv-loop μ-loop
 cast-words-2 c = omega (arith, c .shared-slice-known2 .given (2 * c .before .before .before .loop .i + 1))
@@ -54,18 +39,6 @@ add-words-2 c =
       c .before .shared-slice-known .given (2 * c .before .before .before .loop .i),
       c .shared-slice-known2 .given (2 * c .before .before .before .loop .i + 1),
     )
-
-mul-words-4 : tie.Need-mul-words-4 Inv-loop μ-loop
-mul-words-4 c = omega arith
-
-array-write-words : tie.Need-array-write-words Inv-loop μ-loop
-array-write-words c = omega arith
-
-add-i : tie.Need-add-i Inv-loop μ-loop
-add-i c = omega arith
-
-loop-less : tie.Need-loop-less Inv-loop μ-loop
-loop-less c = omega arith
 
 loop-again : tie.Need-loop-again Inv-loop μ-loop
 loop-again c =
@@ -90,18 +63,18 @@ key-words-spec =
     Inv-loop
     μ-loop
     loop-holds
-    mul-words
-    shared-slice-read-words
+    (λ c. omega arith)
+    (λ c. omega arith)
     cast-words
-    mul-words-2
-    add-words
-    shared-slice-read-words-2
+    (λ c. omega arith)
+    (λ c. omega arith)
+    (λ c. omega arith)
     cast-words-2
     mul-words-3
     add-words-2
-    mul-words-4
-    array-write-words
-    add-i
-    loop-less
+    (λ c. omega arith)
+    (λ c. omega arith)
+    (λ c. omega arith)
+    (λ c. omega arith)
     loop-again
     returns)

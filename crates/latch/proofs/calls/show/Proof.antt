@@ -11,12 +11,6 @@ use Rattle.latch.proofs.Ladders.{show-passed}
 use Rattle.latch.proofs.calls.show.Statement.{statement}
 use Rattle.latch.proofs.calls.show.Tie as tie
 
-show-number-requires : tie.Need-show-number-requires
-show-number-requires c κs = search needs
-
-refused-requires : tie.Need-refused-requires
-refused-requires c κs = search needs
-
 returns : tie.Need-returns
 unfolding showLock
 returns c = rw (← c .before .before .show-number .ensures, ne-eqb _ _ (c .before .if1 .taken)) (c .refused .ensures)
@@ -28,12 +22,6 @@ cast-t8 c =
     show-passed (a .caller) (a .domain) (a .page) (sym (c .before .show-number .ensures) ∙ c .if1 .left) in
     omega arith
 
-shown-level-requires : tie.Need-shown-level-requires
-shown-level-requires c κs = search needs
-
-told-requires : tie.Need-told-requires
-told-requires c κs = search needs
-
 returns-2 : tie.Need-returns-2
 unfolding showLock
 returns-2 c =
@@ -44,10 +32,10 @@ pub show-spec : {M : Type 1} → statement M
 show-spec =
     tie.close
     (tie.spec
-    show-number-requires
-    refused-requires
+    (λ c κs. search needs)
+    (λ c κs. search needs)
     returns
     cast-t8
-    shown-level-requires
-    told-requires
+    (λ c κs. search needs)
+    (λ c κs. search needs)
     returns-2)

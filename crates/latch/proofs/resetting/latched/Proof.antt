@@ -5,15 +5,6 @@ use Rattle.latch.specs.Resetting.{latched}
 use Rattle.latch.proofs.resetting.latched.Statement.{statement}
 use Rattle.latch.proofs.resetting.latched.Tie as tie
 
-locks-of-requires : tie.Need-locks-of-requires
-locks-of-requires c κs = search needs
-
-six-keys-requires : tie.Need-six-keys-requires
-six-keys-requires c κs = search needs
-
-tallies-of-requires : tie.Need-tallies-of-requires
-tallies-of-requires c κs = search needs
-
 returns : tie.Need-returns
 unfolding latched
 returns c =
@@ -21,4 +12,4 @@ returns c =
     simp (locks .0, locks .1, locks .2, locks .3, locks .4, locks .5, c .before .six-keys .ensures, c .tallies-of .ensures)
 
 pub latched-spec : {M : Type 1} → statement M
-latched-spec = tie.close (tie.spec locks-of-requires six-keys-requires tallies-of-requires returns)
+latched-spec = tie.close (tie.spec (λ c κs. search needs) (λ c κs. search needs) (λ c κs. search needs) returns)

@@ -26,60 +26,9 @@ Inv-loop rows k first flag words₀ whole₀ i₀ words whole i =
 abbrev μ-loop : tie.MeasureT-loop
 μ-loop rows k first flag words₀ whole₀ i₀ words whole i = 8 - i
 
-sub-first : tie.Need-sub-first Inv-loop μ-loop
-sub-first c = omega arith
-
-mul-first : tie.Need-mul-first Inv-loop μ-loop
-mul-first c = omega arith
-
-add-first : tie.Need-add-first Inv-loop μ-loop
-add-first c = omega arith
-
-cast-first : tie.Need-cast-first Inv-loop μ-loop
-cast-first c = omega arith
-
-add-flag : tie.Need-add-flag Inv-loop μ-loop
-add-flag c = omega arith
-
-cast-flag : tie.Need-cast-flag Inv-loop μ-loop
-cast-flag c = omega arith
-
-mul-flag : tie.Need-mul-flag Inv-loop μ-loop
-mul-flag c = omega arith
-
-shared-slice-read-flag : tie.Need-shared-slice-read-flag Inv-loop μ-loop
-shared-slice-read-flag c = omega arith
-
 loop-holds : tie.Need-loop-holds Inv-loop μ-loop
 unfolding listed allDecode
 loop-holds c = (search needs, search needs, refl, refl)
-
-add-read-row : tie.Need-add-read-row Inv-loop μ-loop
-add-read-row c = omega arith
-
-mul-read-row : tie.Need-mul-read-row Inv-loop μ-loop
-mul-read-row c = omega arith
-
-shared-slice-read-read-row : tie.Need-shared-slice-read-read-row Inv-loop μ-loop
-shared-slice-read-read-row c = omega arith
-
-read-row-requires : tie.Need-read-row-requires Inv-loop μ-loop
-read-row-requires c κs = search needs
-
-cast-words : tie.Need-cast-words Inv-loop μ-loop
-cast-words c = omega arith
-
-mul-words : tie.Need-mul-words Inv-loop μ-loop
-mul-words c = omega arith
-
-array-write-words : tie.Need-array-write-words Inv-loop μ-loop
-array-write-words c = omega arith
-
-add-i : tie.Need-add-i Inv-loop μ-loop
-add-i c = omega arith
-
-loop-less : tie.Need-loop-less Inv-loop μ-loop
-loop-less c = omega arith
 
 loop-again : tie.Need-loop-again Inv-loop μ-loop
 loop-again c =
@@ -100,9 +49,6 @@ loop-again c =
           (c .if1 .came),
     )
 
-voted-byte-requires : tie.Need-voted-byte-requires Inv-loop μ-loop
-voted-byte-requires c κs = search needs
-
 returns : tie.Need-returns Inv-loop μ-loop
 returns c =
     let s = c .before .before .before .before .before in
@@ -122,24 +68,24 @@ latched-key-spec =
     (tie.spec
     Inv-loop
     μ-loop
-    sub-first
-    mul-first
-    add-first
-    cast-first
-    add-flag
-    cast-flag
-    mul-flag
-    shared-slice-read-flag
+    (λ c. omega arith)
+    (λ c. omega arith)
+    (λ c. omega arith)
+    (λ c. omega arith)
+    (λ c. omega arith)
+    (λ c. omega arith)
+    (λ c. omega arith)
+    (λ c. omega arith)
     loop-holds
-    add-read-row
-    mul-read-row
-    shared-slice-read-read-row
-    read-row-requires
-    cast-words
-    mul-words
-    array-write-words
-    add-i
-    loop-less
+    (λ c. omega arith)
+    (λ c. omega arith)
+    (λ c. omega arith)
+    (λ c κs. search needs)
+    (λ c. omega arith)
+    (λ c. omega arith)
+    (λ c. omega arith)
+    (λ c. omega arith)
+    (λ c. omega arith)
     loop-again
-    voted-byte-requires
+    (λ c κs. search needs)
     returns)

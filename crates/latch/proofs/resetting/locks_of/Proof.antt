@@ -51,60 +51,6 @@ loop-holds : tie.Need-loop-holds Inv-loop μ-loop
 unfolding listed
 loop-holds c = (search needs, (search needs, refl), (search needs, refl), (search needs, refl), (search needs, refl), (search needs, refl), (search needs, refl))
 
-cast-t14 : tie.Need-cast-t14 Inv-loop μ-loop
-cast-t14 c = omega arith
-
-low-lock-row-requires : tie.Need-low-lock-row-requires Inv-loop μ-loop
-low-lock-row-requires c κs = search needs
-
-cast-low : tie.Need-cast-low Inv-loop μ-loop
-cast-low c = omega arith
-
-high-lock-row-requires : tie.Need-high-lock-row-requires Inv-loop μ-loop
-high-lock-row-requires c κs = search needs
-
-cast-high : tie.Need-cast-high Inv-loop μ-loop
-cast-high c = omega arith
-
-mul-lock-word : tie.Need-mul-lock-word Inv-loop μ-loop
-mul-lock-word c = omega arith
-
-shared-slice-read-lock-word : tie.Need-shared-slice-read-lock-word Inv-loop μ-loop
-shared-slice-read-lock-word c = omega arith
-
-mul-lock-word-2 : tie.Need-mul-lock-word-2 Inv-loop μ-loop
-mul-lock-word-2 c = omega arith
-
-shared-slice-read-lock-word-2 : tie.Need-shared-slice-read-lock-word-2 Inv-loop μ-loop
-shared-slice-read-lock-word-2 c = omega arith
-
-lock-word-requires : tie.Need-lock-word-requires Inv-loop μ-loop
-lock-word-requires c κs = search needs
-
-array-write-secure : tie.Need-array-write-secure Inv-loop μ-loop
-array-write-secure c = omega arith
-
-array-write-nonsecure : tie.Need-array-write-nonsecure Inv-loop μ-loop
-array-write-nonsecure c = omega arith
-
-array-write-bootloader : tie.Need-array-write-bootloader Inv-loop μ-loop
-array-write-bootloader c = omega arith
-
-array-write-writekey : tie.Need-array-write-writekey Inv-loop μ-loop
-array-write-writekey c = omega arith
-
-array-write-readkey : tie.Need-array-write-readkey Inv-loop μ-loop
-array-write-readkey c = omega arith
-
-array-write-nokey : tie.Need-array-write-nokey Inv-loop μ-loop
-array-write-nokey c = omega arith
-
-add-at : tie.Need-add-at Inv-loop μ-loop
-add-at c = omega arith
-
-loop-less : tie.Need-loop-less Inv-loop μ-loop
-loop-less c = omega arith
-
 loop-again : tie.Need-loop-again Inv-loop μ-loop
 loop-again c =
     let rows = now (c .before .before .before .before .before .before .before .before .args .rows) in
@@ -141,23 +87,23 @@ locks-of-spec =
     Inv-loop
     μ-loop
     loop-holds
-    cast-t14
-    low-lock-row-requires
-    cast-low
-    high-lock-row-requires
-    cast-high
-    mul-lock-word
-    shared-slice-read-lock-word
-    mul-lock-word-2
-    shared-slice-read-lock-word-2
-    lock-word-requires
-    array-write-secure
-    array-write-nonsecure
-    array-write-bootloader
-    array-write-writekey
-    array-write-readkey
-    array-write-nokey
-    add-at
-    loop-less
+    (λ c. omega arith)
+    (λ c κs. search needs)
+    (λ c. omega arith)
+    (λ c κs. search needs)
+    (λ c. omega arith)
+    (λ c. omega arith)
+    (λ c. omega arith)
+    (λ c. omega arith)
+    (λ c. omega arith)
+    (λ c κs. search needs)
+    (λ c. omega arith)
+    (λ c. omega arith)
+    (λ c. omega arith)
+    (λ c. omega arith)
+    (λ c. omega arith)
+    (λ c. omega arith)
+    (λ c. omega arith)
+    (λ c. omega arith)
     loop-again
     returns)

@@ -23,42 +23,15 @@ Inv-loop rows first bits₀ i₀ bits i =
 abbrev μ-loop : tie.MeasureT-loop
 μ-loop rows first bits₀ i₀ bits i = 64 - i
 
-first-row-requires : tie.Need-first-row-requires Inv-loop μ-loop
-first-row-requires c κs = search needs
-
-cast-first : tie.Need-cast-first Inv-loop μ-loop
-cast-first c = search needs
-
 loop-holds : tie.Need-loop-holds Inv-loop μ-loop
 loop-holds c =
     let inside : c .first-row .result + 64 ≤ length (now (c .before .before .args .rows)) = rw (c .first-row .ensures) (c .before .before .pre) in
     (search needs, search needs, zero-add _, inside)
 
-cast-loop : tie.Need-cast-loop Inv-loop μ-loop
-cast-loop c = search needs
-
-add-set-bits : tie.Need-add-set-bits Inv-loop μ-loop
-add-set-bits c = omega arith
-
-mul-set-bits : tie.Need-mul-set-bits Inv-loop μ-loop
-mul-set-bits c = omega arith
-
-shared-slice-read-set-bits : tie.Need-shared-slice-read-set-bits Inv-loop μ-loop
-shared-slice-read-set-bits c = omega arith
-
-set-bits-requires : tie.Need-set-bits-requires Inv-loop μ-loop
-set-bits-requires c κs = search needs
-
 add-bits : tie.Need-add-bits Inv-loop μ-loop
 add-bits c =
     let few : c .set-bits .result ≤ 24 = rw (c .set-bits .ensures) (row-few _) in
     omega arith
-
-add-i : tie.Need-add-i Inv-loop μ-loop
-add-i c = omega arith
-
-loop-less : tie.Need-loop-less Inv-loop μ-loop
-loop-less c = omega arith
 
 loop-again : tie.Need-loop-again Inv-loop μ-loop
 loop-again c =
@@ -68,9 +41,6 @@ loop-again c =
     let few : c .set-bits .result ≤ 24 = rw (c .set-bits .ensures) (row-few _) in
     let next = count-next rows first (l .inv .3) (l .i) (omega arith) in
     (omega arith, omega arith, omega (arith, c .set-bits .ensures), l .inv .3)
-
-cast-result : tie.Need-cast-result Inv-loop μ-loop
-cast-result c = omega arith
 
 returns : tie.Need-returns Inv-loop μ-loop
 returns c =
@@ -87,17 +57,17 @@ page-bits-spec =
     (tie.spec
     Inv-loop
     μ-loop
-    first-row-requires
-    cast-first
+    (λ c κs. search needs)
+    (λ c. search needs)
     loop-holds
-    cast-loop
-    add-set-bits
-    mul-set-bits
-    shared-slice-read-set-bits
-    set-bits-requires
+    (λ c. search needs)
+    (λ c. omega arith)
+    (λ c. omega arith)
+    (λ c. omega arith)
+    (λ c κs. search needs)
     add-bits
-    add-i
-    loop-less
+    (λ c. omega arith)
+    (λ c. omega arith)
     loop-again
-    cast-result
+    (λ c. omega arith)
     returns)

@@ -6,30 +6,15 @@ use Rattle.latch.specs.Resetting.{reset}
 use Rattle.latch.proofs.resetting.reset.Statement.{statement}
 use Rattle.latch.proofs.resetting.reset.Tie as tie
 
-refusal-requires : tie.Need-refusal-requires
-refusal-requires c κs = search needs
-
 returns : tie.Need-returns
 unfolding reset
 returns c = rw (ne-eqb _ 4096 (c .before .if1 .taken)) (c .refusal .ensures)
-
-all-in-range-requires : tie.Need-all-in-range-requires
-all-in-range-requires c κs = search needs
-
-refusal-requires-2 : tie.Need-refusal-requires-2
-refusal-requires-2 c κs = search needs
 
 returns-2 : tie.Need-returns-2
 unfolding reset
 returns-2 c =
     rw (eq-eqb _ _ (c .before .before .before .if1 .left), ← c .before .before .all-in-range .ensures, not-true (c .before .before .all-in-range .result) (c .before .if2 .taken))
     (c .refusal2 .ensures)
-
-done-requires : tie.Need-done-requires
-done-requires c κs = search needs
-
-latched-requires : tie.Need-latched-requires
-latched-requires c κs = search needs
 
 returns-3 : tie.Need-returns-3
 unfolding reset
@@ -41,11 +26,11 @@ pub reset-spec : {M : Type 1} → statement M
 reset-spec =
     tie.close
     (tie.spec
-    refusal-requires
+    (λ c κs. search needs)
     returns
-    all-in-range-requires
-    refusal-requires-2
+    (λ c κs. search needs)
+    (λ c κs. search needs)
     returns-2
-    done-requires
-    latched-requires
+    (λ c κs. search needs)
+    (λ c κs. search needs)
     returns-3)

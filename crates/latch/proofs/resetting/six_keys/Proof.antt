@@ -24,26 +24,8 @@ loop-holds : tie.Need-loop-holds Inv-loop μ-loop
 unfolding listed
 loop-holds c = (search needs, search needs, refl)
 
-add-latched-key : tie.Need-add-latched-key Inv-loop μ-loop
-add-latched-key c = omega arith
-
-cast-latched-key : tie.Need-cast-latched-key Inv-loop μ-loop
-cast-latched-key c = omega arith
-
 latched-key-requires : tie.Need-latched-key-requires Inv-loop μ-loop
 latched-key-requires c κs = (c .before .before .before .pre, omega arith, omega arith)
-
-mul-keys : tie.Need-mul-keys Inv-loop μ-loop
-mul-keys c = omega arith
-
-array-set-from-keys : tie.Need-array-set-from-keys Inv-loop μ-loop
-array-set-from-keys c = omega arith
-
-add-i : tie.Need-add-i Inv-loop μ-loop
-add-i c = omega arith
-
-loop-less : tie.Need-loop-less Inv-loop μ-loop
-loop-less c = omega arith
 
 loop-again : tie.Need-loop-again Inv-loop μ-loop
 loop-again c =
@@ -69,12 +51,12 @@ six-keys-spec =
     Inv-loop
     μ-loop
     loop-holds
-    add-latched-key
-    cast-latched-key
+    (λ c. omega arith)
+    (λ c. omega arith)
     latched-key-requires
-    mul-keys
-    array-set-from-keys
-    add-i
-    loop-less
+    (λ c. omega arith)
+    (λ c. omega arith)
+    (λ c. omega arith)
+    (λ c. omega arith)
     loop-again
     returns)

@@ -25,23 +25,8 @@ loop-holds : tie.Need-loop-holds Inv-loop μ-loop
 unfolding listed
 loop-holds c = (search needs, (search needs, refl))
 
-cast-t6 : tie.Need-cast-t6 Inv-loop μ-loop
-cast-t6 c = omega arith
-
 page-bits-requires : tie.Need-page-bits-requires Inv-loop μ-loop
 page-bits-requires c κs = omega (arith, c .before .before .before .pre)
-
-mul-tallies : tie.Need-mul-tallies Inv-loop μ-loop
-mul-tallies c = omega arith
-
-array-write-tallies : tie.Need-array-write-tallies Inv-loop μ-loop
-array-write-tallies c = omega arith
-
-add-at : tie.Need-add-at Inv-loop μ-loop
-add-at c = omega arith
-
-loop-less : tie.Need-loop-less Inv-loop μ-loop
-loop-less c = omega arith
 
 loop-again : tie.Need-loop-again Inv-loop μ-loop
 loop-again c =
@@ -63,11 +48,11 @@ tallies-of-spec =
     Inv-loop
     μ-loop
     loop-holds
-    cast-t6
+    (λ c. omega arith)
     page-bits-requires
-    mul-tallies
-    array-write-tallies
-    add-at
-    loop-less
+    (λ c. omega arith)
+    (λ c. omega arith)
+    (λ c. omega arith)
+    (λ c. omega arith)
     loop-again
     returns)

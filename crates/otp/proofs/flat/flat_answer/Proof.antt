@@ -5,18 +5,6 @@ use Rattle.otp.specs.Flat.{flatAnswer}
 use Rattle.otp.proofs.flat.flat_answer.Statement.{statement}
 use Rattle.otp.proofs.flat.flat_answer.Tie as tie
 
-condition-number-requires : tie.Need-condition-number-requires
-condition-number-requires c κs = search needs
-
-repaired-bit-requires : tie.Need-repaired-bit-requires
-repaired-bit-requires c κs = search needs
-
-polarity-number-requires : tie.Need-polarity-number-requires
-polarity-number-requires c κs = search needs
-
-disagree-number-requires : tie.Need-disagree-number-requires
-disagree-number-requires c κs = search needs
-
 returns : tie.Need-returns
 unfolding flatAnswer
 returns c =
@@ -30,4 +18,4 @@ returns c =
 pub flat-answer-spec : {M : Type 1} → statement M
 flat-answer-spec =
     tie.close
-    (tie.spec condition-number-requires repaired-bit-requires polarity-number-requires disagree-number-requires returns)
+    (tie.spec (λ c κs. search needs) (λ c κs. search needs) (λ c κs. search needs) (λ c κs. search needs) returns)

@@ -5,12 +5,9 @@ use Rattle.otp.specs.Flat.{flatOutcome}
 use Rattle.otp.proofs.flat.flat_outcome.Statement.{statement}
 use Rattle.otp.proofs.flat.flat_outcome.Tie as tie
 
-flat-answer-requires : tie.Need-flat-answer-requires
-flat-answer-requires c κs = search needs
-
 returns : tie.Need-returns
 unfolding flatOutcome
 returns c = simp (c .flat-answer .ensures)
 
 pub flat-outcome-spec : {M : Type 1} → statement M
-flat-outcome-spec = tie.close (tie.spec flat-answer-requires returns)
+flat-outcome-spec = tie.close (tie.spec (λ c κs. search needs) returns)

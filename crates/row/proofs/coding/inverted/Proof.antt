@@ -6,14 +6,8 @@ use Rattle.row.specs.Code.{flipped}
 use Rattle.row.proofs.coding.inverted.Statement.{statement}
 use Rattle.row.proofs.coding.inverted.Tie as tie
 
-plain-requires : tie.Need-plain-requires
-plain-requires c κs = search needs
-
-flipped-requires : tie.Need-flipped-requires
-flipped-requires c κs = search needs
-
 returns : tie.Need-returns
 returns c = c .flipped .ensures ∙ ap flipped (c .before .plain .ensures)
 
 pub inverted-spec : {M : Type 1} → statement M
-inverted-spec = tie.close (tie.spec plain-requires flipped-requires returns)
+inverted-spec = tie.close (tie.spec (λ c κs. search needs) (λ c κs. search needs) returns)

@@ -5,9 +5,6 @@ use mathlib.Core.Path.{sym, _∙_}
 use Rattle.row.proofs.reading.polarity_of.Statement.{statement}
 use Rattle.row.proofs.reading.polarity_of.Tie as tie
 
-both-set-requires : tie.Need-both-set-requires
-both-set-requires c κs = search needs
-
 returns : tie.Need-returns
 returns c = rw (sym (c .before .both-set .ensures) ∙ c .if1 .taken)
 
@@ -15,4 +12,4 @@ returns-2 : tie.Need-returns-2
 returns-2 c = rw (sym (c .before .both-set .ensures) ∙ c .if1 .left)
 
 pub polarity-of-spec : {M : Type 1} → statement M
-polarity-of-spec = tie.close (tie.spec both-set-requires returns returns-2)
+polarity-of-spec = tie.close (tie.spec (λ c κs. search needs) returns returns-2)

@@ -7,15 +7,6 @@ use Rattle.row.specs.Reading.{decoded, saidOf}
 use Rattle.row.proofs.reading.read_row.Statement.{statement}
 use Rattle.row.proofs.reading.read_row.Tie as tie
 
-upright-requires : tie.Need-upright-requires
-upright-requires c κs = search needs
-
-decoded-requires : tie.Need-decoded-requires
-decoded-requires c κs = search needs
-
-said-of-requires : tie.Need-said-of-requires
-said-of-requires c κs = search needs
-
 returns : tie.Need-returns
 returns c =
     c .said-of .ensures
@@ -23,4 +14,4 @@ returns c =
     (c .before .decoded .ensures ∙ ap (λ (row : ℕ). decoded (row % 2 ^ 22)) (c .before .before .upright .ensures))
 
 pub read-row-spec : {M : Type 1} → statement M
-read-row-spec = tie.close (tie.spec upright-requires decoded-requires said-of-requires returns)
+read-row-spec = tie.close (tie.spec (λ c κs. search needs) (λ c κs. search needs) (λ c κs. search needs) returns)

@@ -9,23 +9,8 @@ use Rattle.row.specs.declared.answer.Polarity.{Polarity}
 use Rattle.row.proofs.reading.said_of.Statement.{statement}
 use Rattle.row.proofs.reading.said_of.Tie as tie
 
-refused-requires : tie.Need-refused-requires
-refused-requires c κs = search needs
-
 returns : tie.Need-returns
 returns c = rw (ne-eqb (c .before .before .args .held .number) 0 (c .before .if1 .taken)) (c .refused .ensures)
-
-polarity-of-requires : tie.Need-polarity-of-requires
-polarity-of-requires c κs = search needs
-
-disagree-requires : tie.Need-disagree-requires
-disagree-requires c κs = search needs
-
-flag-worn-requires : tie.Need-flag-worn-requires
-flag-worn-requires c κs = search needs
-
-found-in-requires : tie.Need-found-in-requires
-found-in-requires c κs = search needs
 
 returns-2 : tie.Need-returns-2
 returns-2 c =
@@ -37,9 +22,6 @@ returns-2 c =
     (c .found-in .ensures
     ∙ ap₂ (λ (p : Polarity) (worn : Condition). foundIn p (s .held .value) worn) (c .before .before .before .before .polarity-of .ensures)
     (c .before .flag-worn .ensures))
-
-found-in-requires-2 : tie.Need-found-in-requires-2
-found-in-requires-2 c κs = search needs
 
 returns-3 : tie.Need-returns-3
 returns-3 c =
@@ -55,12 +37,12 @@ pub said-of-spec : {M : Type 1} → statement M
 said-of-spec =
     tie.close
     (tie.spec
-    refused-requires
+    (λ c κs. search needs)
     returns
-    polarity-of-requires
-    disagree-requires
-    flag-worn-requires
-    found-in-requires
+    (λ c κs. search needs)
+    (λ c κs. search needs)
+    (λ c κs. search needs)
+    (λ c κs. search needs)
     returns-2
-    found-in-requires-2
+    (λ c κs. search needs)
     returns-3)

@@ -8,12 +8,6 @@ use Rattle.row.specs.Upward.{lowestBelow, burntUpward}
 use Rattle.row.proofs.upward.burnt_upward.Statement.{statement}
 use Rattle.row.proofs.upward.burnt_upward.Tie as tie
 
-flipped-requires : tie.Need-flipped-requires
-flipped-requires c κs = search needs
-
-lowest-requires : tie.Need-lowest-requires
-lowest-requires c κs = search needs
-
 returns : tie.Need-returns
 unfolding burntUpward
 returns c =
@@ -22,4 +16,4 @@ returns c =
     (c .lowest .ensures ∙ ap (λ (f : ℕ). lowestBelow 24 (s .n) (bitAnd (s .row) f)) (c .before .flipped .ensures))
 
 pub burnt-upward-spec : {M : Type 1} → statement M
-burnt-upward-spec = tie.close (tie.spec flipped-requires lowest-requires returns)
+burnt-upward-spec = tie.close (tie.spec (λ c κs. search needs) (λ c κs. search needs) returns)

@@ -27,12 +27,6 @@ loop-holds : tie.Need-loop-holds Inv-loop μ-loop
 unfolding lowestBelow onesIn
 loop-holds c = (search needs, refl, refl)
 
-shr-bit : tie.Need-shr-bit Inv-loop μ-loop
-shr-bit c = omega arith
-
-shl-kept : tie.Need-shl-kept Inv-loop μ-loop
-shl-kept c = omega arith
-
 add-kept : tie.Need-add-kept Inv-loop μ-loop
 add-kept c =
     let s = c .before .before .before .args in
@@ -52,12 +46,6 @@ add-passed c =
     let l = c .before .before .loop in
     let few : onesIn (l .place) (s .bits) ≤ l .place = ones-le (l .place) (s .bits) in
     omega arith
-
-add-place : tie.Need-add-place Inv-loop μ-loop
-add-place c = omega arith
-
-loop-less : tie.Need-loop-less Inv-loop μ-loop
-loop-less c = omega arith
 
 loop-again : tie.Need-loop-again Inv-loop μ-loop
 loop-again c =
@@ -87,11 +75,11 @@ lowest-spec =
     Inv-loop
     μ-loop
     loop-holds
-    shr-bit
-    shl-kept
+    (λ c. omega arith)
+    (λ c. omega arith)
     add-kept
     add-passed
-    add-place
-    loop-less
+    (λ c. omega arith)
+    (λ c. omega arith)
     loop-again
     returns)

@@ -8,15 +8,6 @@ use Rattle.row.specs.Writing.{fits, burntOver}
 use Rattle.row.proofs.writing.write_ecc.Statement.{statement}
 use Rattle.row.proofs.writing.write_ecc.Tie as tie
 
-plain-requires : tie.Need-plain-requires
-plain-requires c κs = search needs
-
-fits-requires : tie.Need-fits-requires
-fits-requires c κs = search needs
-
-burnt-over-requires : tie.Need-burnt-over-requires
-burnt-over-requires c κs = search needs
-
 returns : tie.Need-returns
 returns c =
     let s = c .before .before .before .before in
@@ -24,15 +15,6 @@ returns c =
     let plain-fits : fits (s .args .old) (plain (s .args .value)) ≡ true =
     ap (fits (s .args .old)) (sym (p .plain .ensures)) ∙ sym (c .before .before .fits2 .ensures) ∙ c .before .if1 .taken in
     simp plain-fits (c .burnt-over .ensures ∙ ap (burntOver (s .args .old)) (p .plain .ensures))
-
-inverted-requires : tie.Need-inverted-requires
-inverted-requires c κs = search needs
-
-fits-requires-2 : tie.Need-fits-requires-2
-fits-requires-2 c κs = search needs
-
-burnt-over-requires-2 : tie.Need-burnt-over-requires-2
-burnt-over-requires-2 c κs = search needs
 
 returns-2 : tie.Need-returns-2
 returns-2 c =
@@ -62,12 +44,12 @@ pub write-ecc-spec : {M : Type 1} → statement M
 write-ecc-spec =
     tie.close
     (tie.spec
-    plain-requires
-    fits-requires
-    burnt-over-requires
+    (λ c κs. search needs)
+    (λ c κs. search needs)
+    (λ c κs. search needs)
     returns
-    inverted-requires
-    fits-requires-2
-    burnt-over-requires-2
+    (λ c κs. search needs)
+    (λ c κs. search needs)
+    (λ c κs. search needs)
     returns-2
     returns-3)

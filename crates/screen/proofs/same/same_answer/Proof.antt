@@ -17,12 +17,9 @@ returns-3 c = simp (eq-eqb _ _ (c .before .before .before .before .before .befor
 returns-4 : tie.Need-returns-4
 returns-4 c = simp (eq-eqb _ _ (c .before .before .before .before .before .before .before .before .before .if1 .left), eq-eqb _ _ (c .before .before .before .before .before .before .if2 .left), eq-eqb _ _ (c .before .before .before .if3 .left), ne-eqb _ _ (c .if4 .taken))
 
-same-said-requires : tie.Need-same-said-requires
-same-said-requires c κs = search needs
-
 returns-5 : tie.Need-returns-5
 returns-5 c = simp (eq-eqb _ _ (c .before .before .before .before .before .before .before .before .before .before .if1 .left), eq-eqb _ _ (c .before .before .before .before .before .before .before .if2 .left), eq-eqb _ _ (c .before .before .before .before .if3 .left), eq-eqb _ _ (c .before .if4 .left)) (c .same-said .ensures)
 
 pub same-answer-spec : {M : Type 1} → statement M
 same-answer-spec =
-    tie.close (tie.spec returns returns-2 returns-3 returns-4 same-said-requires returns-5)
+    tie.close (tie.spec returns returns-2 returns-3 returns-4 (λ c κs. search needs) returns-5)

@@ -4,17 +4,8 @@ use borrow.Author.Needs.{needs}
 use Rattle.screen.proofs.tally.compared_many.Statement.{statement}
 use Rattle.screen.proofs.tally.compared_many.Tie as tie
 
-sum-requires : tie.Need-sum-requires
-sum-requires c κs = search needs
-
-missing-requires : tie.Need-missing-requires
-missing-requires c κs = search needs
-
-sum-requires-2 : tie.Need-sum-requires-2
-sum-requires-2 c κs = search needs
-
 returns : tie.Need-returns
 returns c = simp (c .before .before .sum .ensures, c .sum2 .ensures, c .before .missing .ensures)
 
 pub compared-many-spec : {M : Type 1} → statement M
-compared-many-spec = tie.close (tie.spec sum-requires missing-requires sum-requires-2 returns)
+compared-many-spec = tie.close (tie.spec (λ c κs. search needs) (λ c κs. search needs) (λ c κs. search needs) returns)

@@ -4,14 +4,8 @@ use borrow.Author.Needs.{needs}
 use Rattle.screen.proofs.tally.one_more.Statement.{statement}
 use Rattle.screen.proofs.tally.one_more.Tie as tie
 
-sum-requires : tie.Need-sum-requires
-sum-requires c κs = search needs
-
 returns : tie.Need-returns
 returns c = rw (c .before .if1 .taken) (c .sum .ensures)
 
-returns-2 : tie.Need-returns-2
-returns-2 c = search needs
-
 pub one-more-spec : {M : Type 1} → statement M
-one-more-spec = tie.close (tie.spec sum-requires returns returns-2)
+one-more-spec = tie.close (tie.spec (λ c κs. search needs) returns (λ c. search needs))

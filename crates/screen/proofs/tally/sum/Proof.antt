@@ -11,11 +11,8 @@ returns c = rw (lt-ltb _ _ (c .if1 .taken))
 returns-2 : tie.Need-returns-2
 returns-2 c = rw (le-ltb _ _ (c .before .if1 .left), lt-ltb _ _ (c .if2 .taken))
 
-add-result : tie.Need-add-result
-add-result c = search needs
-
 returns-3 : tie.Need-returns-3
 returns-3 c = rw (le-ltb _ _ (c .before .if1 .left), le-ltb _ _ (c .if2 .left))
 
 pub sum-spec : {M : Type 1} → statement M
-sum-spec = tie.close (tie.spec returns returns-2 add-result returns-3)
+sum-spec = tie.close (tie.spec returns returns-2 (λ c. search needs) returns-3)

@@ -23,24 +23,6 @@ loop-holds : tie.Need-loop-holds Inv-loop μ-loop
 unfolding holders
 loop-holds c = (search needs, search needs, refl)
 
-mul-held : tie.Need-mul-held Inv-loop μ-loop
-mul-held c = omega arith
-
-array-read-held : tie.Need-array-read-held Inv-loop μ-loop
-array-read-held c = omega arith
-
-shr-held : tie.Need-shr-held Inv-loop μ-loop
-shr-held c = search needs
-
-add-held : tie.Need-add-held Inv-loop μ-loop
-add-held c = omega arith
-
-add-i : tie.Need-add-i Inv-loop μ-loop
-add-i c = omega arith
-
-loop-less : tie.Need-loop-less Inv-loop μ-loop
-loop-less c = omega arith
-
 loop-again : tie.Need-loop-again Inv-loop μ-loop
 loop-again c =
     let a = c .before .before .before .args in
@@ -73,11 +55,11 @@ holders-spec =
     Inv-loop
     μ-loop
     loop-holds
-    mul-held
-    array-read-held
-    shr-held
-    add-held
-    add-i
-    loop-less
+    (λ c. omega arith)
+    (λ c. omega arith)
+    (λ c. search needs)
+    (λ c. omega arith)
+    (λ c. omega arith)
+    (λ c. omega arith)
     loop-again
     returns)

@@ -29,9 +29,6 @@ loop-holds c = (search needs, refl)
 holders-requires : tie.Need-holders-requires Inv-loop μ-loop
 holders-requires c κs = (⊎-elim (λ w. omega arith) (λ w. omega arith) (c .before .before .if1 .came), omega arith)
 
-shl-voted : tie.Need-shl-voted Inv-loop μ-loop
-shl-voted c = omega arith
-
 add-voted : tie.Need-add-voted Inv-loop μ-loop
 add-voted c =
     let l = c .before .before .before .loop in
@@ -40,12 +37,6 @@ add-voted c =
     let low : l .place ≤ 24 = l .inv .0 in
     let under : 2 ^ l .place ≤ 2 ^ 24 = pow-mono low in
     omega arith
-
-add-place : tie.Need-add-place Inv-loop μ-loop
-add-place c = omega arith
-
-loop-less : tie.Need-loop-less Inv-loop μ-loop
-loop-less c = omega arith
 
 loop-again : tie.Need-loop-again Inv-loop μ-loop
 loop-again c =
@@ -82,9 +73,9 @@ vote-spec =
     μ-loop
     loop-holds
     holders-requires
-    shl-voted
+    (λ c. omega arith)
     add-voted
-    add-place
-    loop-less
+    (λ c. omega arith)
+    (λ c. omega arith)
     loop-again
     returns)

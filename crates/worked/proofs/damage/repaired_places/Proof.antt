@@ -10,45 +10,18 @@ Inv-loop row value polarity flag-worn right₀ place₀ right place = Unit
 abbrev μ-loop : tie.MeasureT-loop
 μ-loop row value polarity flag-worn right₀ place₀ right place = 22 - place
 
-loop-holds : tie.Need-loop-holds Inv-loop μ-loop
-loop-holds c = search needs
-
-shl-reads : tie.Need-shl-reads Inv-loop μ-loop
-shl-reads c = search needs
-
-must-read-requires : tie.Need-must-read-requires Inv-loop μ-loop
-must-read-requires c κs = search needs
-
-reads-requires : tie.Need-reads-requires Inv-loop μ-loop
-reads-requires c κs = search needs
-
-one-more-requires : tie.Need-one-more-requires Inv-loop μ-loop
-one-more-requires c κs = search needs
-
-add-place : tie.Need-add-place Inv-loop μ-loop
-add-place c = search needs
-
-loop-less : tie.Need-loop-less Inv-loop μ-loop
-loop-less c = search needs
-
-loop-again : tie.Need-loop-again Inv-loop μ-loop
-loop-again c = search needs
-
-returns : tie.Need-returns Inv-loop μ-loop
-returns c = search needs
-
 pub repaired-places-spec : {M : Type 1} → statement M
 repaired-places-spec =
     tie.close
     (tie.spec
     Inv-loop
     μ-loop
-    loop-holds
-    shl-reads
-    must-read-requires
-    reads-requires
-    one-more-requires
-    add-place
-    loop-less
-    loop-again
-    returns)
+    (λ c. search needs)
+    (λ c. search needs)
+    (λ c κs. search needs)
+    (λ c κs. search needs)
+    (λ c κs. search needs)
+    (λ c. search needs)
+    (λ c. search needs)
+    (λ c. search needs)
+    (λ c. search needs))

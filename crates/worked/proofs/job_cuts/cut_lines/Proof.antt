@@ -11,25 +11,7 @@ Inv-loop tally₀ limit₀ tally limit = Unit
 abbrev μ-loop : tie.MeasureT-loop
 μ-loop tally₀ limit₀ tally limit = 29 - limit
 
-loop-holds : tie.Need-loop-holds Inv-loop μ-loop
-loop-holds c = search needs
-
-cut-line-requires : tie.Need-cut-line-requires Inv-loop μ-loop
-cut-line-requires c κs = search needs
-
-add-limit : tie.Need-add-limit Inv-loop μ-loop
-add-limit c = search needs
-
-loop-less : tie.Need-loop-less Inv-loop μ-loop
-loop-less c = search needs
-
-loop-again : tie.Need-loop-again Inv-loop μ-loop
-loop-again c = search needs
-
-returns : tie.Need-returns Inv-loop μ-loop
-returns c = search needs
-
 pub cut-lines-spec : {M : Type 1} → statement M
 cut-lines-spec =
     tie.close
-    (tie.spec Inv-loop μ-loop loop-holds cut-line-requires add-limit loop-less loop-again returns)
+    (tie.spec Inv-loop μ-loop (λ c. search needs) (λ c κs. search needs) (λ c. search needs) (λ c. search needs) (λ c. search needs) (λ c. search needs))

@@ -8,11 +8,8 @@ use Rattle.chip.proofs.pages.Page.key_page.Tie as tie
 returns : tie.Need-returns
 returns c = simp (lt-ltb _ _ (c .if1 .taken))
 
-cast-t4 : tie.Need-cast-t4
-cast-t4 c = search needs
-
 returns-2 : tie.Need-returns-2
 returns-2 c = simp (le-ltb _ _ (c .if1 .left))
 
 pub key-page-spec : {M : Type 1} → statement M
-key-page-spec = tie.close (tie.spec returns cast-t4 returns-2)
+key-page-spec = tie.close (tie.spec returns (λ c. search needs) returns-2)

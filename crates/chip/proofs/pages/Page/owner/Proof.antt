@@ -8,17 +8,11 @@ use Rattle.chip.proofs.pages.Page.owner.Tie as tie
 returns : tie.Need-returns
 returns c = simp (lt-ltb _ _ (c .if1 .taken))
 
-cast-t5 : tie.Need-cast-t5
-cast-t5 c = search needs
-
 returns-2 : tie.Need-returns-2
 returns-2 c = simp (le-ltb _ _ (c .before .if1 .left), le-leb _ _ (c .if2 .taken))
-
-cast-t7 : tie.Need-cast-t7
-cast-t7 c = search needs
 
 returns-3 : tie.Need-returns-3
 returns-3 c = simp (le-ltb _ _ (c .before .if1 .left), lt-leb _ _ (c .if2 .left))
 
 pub owner-spec : {M : Type 1} → statement M
-owner-spec = tie.close (tie.spec returns cast-t5 returns-2 cast-t7 returns-3)
+owner-spec = tie.close (tie.spec returns (λ c. search needs) returns-2 (λ c. search needs) returns-3)
