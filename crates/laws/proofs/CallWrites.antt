@@ -135,11 +135,11 @@ writeReadsBack rows state writer reader row value done readable =
     (readsBack old value (used .1) (by-row .1))
 
 -- a read goes by no tally, and a write leaves the rest of the state that came in
-read-left : (rows left : List ℕ) (state : State) (caller row value : ℕ)
-    → readEcc left (writeEcc rows state caller row value .outcome .state) caller row ≡ readEcc left state caller row
-unfolding writeEcc readEcc callRungs rowRungs hidden mayRead keyLevel matches
-read-left rows left state caller row value =
-    both-ways (λ (l : Left). readEcc left (l .outcome .state) caller row ≡ readEcc left state caller row)
+same-number : (rows left : List ℕ) (state : State) (caller row value : ℕ)
+    → readEccNumber left (writeEcc rows state caller row value .outcome .state) caller row ≡ readEccNumber left state caller row
+unfolding writeEcc callRungs rowRungs hidden mayRead keyLevel matches
+same-number rows left state caller row value =
+    both-ways (λ (l : Left). readEccNumber left (l .outcome .state) caller row ≡ readEccNumber left state caller row)
     (eqb (writeEccNumber rows state caller row value) 0) _ _ refl refl
 
 pub writerReadsBack : WriterReadsBack
@@ -161,4 +161,4 @@ writerReadsBack rows state writer row value done =
     then-rungs (callRungs (set rows row new) state writer row ecc noValue (mayRead state writer row)) (8 when undecodable (rowAt (set rows row new) row) ∷ []) tt
     ∙ ap (λ (n : ℕ). orElse n (firstOf (8 when undecodable (rowAt (set rows row new) row) ∷ []))) first
     ∙ rw (there, ap (λ (a : Answer). a .number) reads) in
-    read-left rows _ state writer row value ∙ writeReadsBack rows state writer writer row value done (rw (left .1) number)
+    writeReadsBack rows state writer writer row value done (same-number rows (writeEcc rows state writer row value .rows) state writer row value ∙ rw (left .1) number)

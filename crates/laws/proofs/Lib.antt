@@ -7,6 +7,7 @@ pub mod Votes
 pub mod Numbers
 pub mod Permits
 pub mod LockRows
+pub mod Contracts
 pub mod Refusals
 pub mod TwoWrong
 pub mod Conditions

@@ -8,7 +8,7 @@ use Prim.Native.Nat.{ℕ, zero, suc, _-_, max}
 use native.Mathlib.Nat.{le-refl}
 use native.Mathlib.Omega.{arith}
 use borrow.Author.Tests.{eq-eqb, eqb-true, eqb-false}
-use lib.Dec.{eqb, ltb}
+use lib.Dec.{eqb, ltb, leb}
 use lib.ListN.{length, getD, set, length-set}
 use Rattle.row.specs.Answers.{told, spent, answered}
 use Rattle.row.specs.Choice.{if_then_else_}
@@ -18,9 +18,10 @@ use Rattle.row.specs.Writing.{eccWritten, rawWritten, neitherFits}
 use Rattle.row.specs.declared.answer.Answer.{Answer}
 use Rattle.row.specs.declared.writing.Written.{Written}
 use Rattle.vote.specs.Voting.{threshold, vote}
-use Rattle.chip.specs.Callers.{shownLevel}
+use Rattle.chip.specs.Callers.{levelsOf, shownLevel}
 use Rattle.chip.specs.Permission.{mayRead, mayWrite}
 use Rattle.chip.specs.Slices.{rowAt}
+use Rattle.chip.specs.States.{withSecure, withNonsecure}
 use Rattle.chip.specs.declared.state.State.{State}
 use Rattle.chip.specs.declared.state.Outcome.{Outcome}
 use Rattle.latch.specs.Calls.{advanceNumber, advanced, advance, showNumber, showLock}
@@ -29,20 +30,16 @@ use Rattle.access.specs.Reads.{readRaw, readEcc}
 use Rattle.access.specs.Votes.{readVote}
 use Rattle.access.specs.Burning.{Left, oneRow}
 use Rattle.access.specs.Writes.{writeRaw, writeEcc}
-use Rattle.laws.specs.Calls.{Chip, Call, Result, stated, leaving, perform, performAll, answersOf}
+use Rattle.laws.specs.Calls.{Chip, Call, Result, only, stated, leaving, perform, performAll, answersOf}
 use Rattle.laws.specs.Settings.{_among_}
-use Rattle.laws.specs.Plugins.{Agree, ByNonsecure, NothingLearnt}
-use Rattle.laws.proofs.StillAgree.{keys-stay, advanced-keeps, still-agree}
+use Rattle.laws.specs.Plugins.{Agree, ByNonsecure, SameAsBefore, NothingLearnt}
+use Rattle.laws.proofs.StillAgree.{keys-stay, advanced-keeps, still-agree, still-same, nothing-changes, same-through}
 use Rattle.laws.proofs.RefusedAlike.{Judged, same-read, same-write, on-one-row, on-a-group}
 use Rattle.laws.proofs.Locking.{advance-state, advanced-raises, advanceLeavesHigher, advanceLeavesOthers}
 use Rattle.laws.proofs.Permits.{mayWriteMayRead}
 use Rattle.laws.proofs.Raising.{withState}
 
 -- ---- each call
-
--- answered alike, and the chips agree
-abbrev Alike : Result → Result → Type 0
-Alike r s = (r .answer ≡ s .answer) × Agree (r .chip) (s .chip)
 
 -- two choices by the same test
 by-test : {A B : Type 0} (P : A → B → Type 0) (t : Bool) (x x' : A) (y y' : B) → (t ≡ true → P x y) → (t ≡ false → P x' y')
@@ -66,7 +63,34 @@ set-alike (x ∷ xs) (y ∷ ys) zero value (suc at) long same = same
 set-alike (x ∷ xs) (y ∷ ys) (suc row) value zero long same = same
 set-alike (x ∷ xs) (y ∷ ys) (suc row) value (suc at) long same = set-alike xs ys row value at (omega (arith, long)) same
 
+-- the same level set in two states, whichever domain it is of: levels that were the same still are
+module _ (a b : State) (page level : ℕ) where
+  abbrev levels : State → Bool → Bool → List ℕ
+  levels state secure nonsecure = if secure then state .secure else if nonsecure then state .nonsecure else state .bootloader
+
+  abbrev left : State → Bool → Bool → State
+  left state secure nonsecure =
+      if secure then withSecure state (set (state .secure) page level)
+      else if nonsecure then withNonsecure state (set (state .nonsecure) page level)
+      else state
+
+  set-same : (s n s' n' : Bool) → levels a s' n' ≡ levels b s' n' → levels (left a s n) s' n' ≡ levels (left b s n) s' n'
+  set-same true n true n' same = ap (λ (own : List ℕ). set own page level) same
+  set-same true n false n' same = same
+  set-same false true true n' same = same
+  set-same false true false true same = ap (λ (own : List ℕ). set own page level) same
+  set-same false true false false same = same
+  set-same false false s' n' same = same
+
 module _ (a b : Chip) (agree : Agree a b) where
+  -- answered alike, the chips agree, and what was the same of them still is
+  abbrev Alike : Result → Result → Type 0
+  Alike r s = (r .answer ≡ s .answer) × Agree (r .chip) (s .chip) × SameAsBefore a b (r .chip) (s .chip)
+
+  -- a call that answers, and no more
+  only-answered : {x y : Answer} → x ≡ y → Alike (only a x) (only b y)
+  only-answered same = (same, agree, nothing-changes a b)
+
   read-raw : (row : ℕ) → readRaw (a .rows) (a .state) 1 row ≡ readRaw (b .rows) (b .state) 1 row
   unfolding readRaw callRungs rowRungs
   read-raw row =
@@ -91,16 +115,23 @@ module _ (a b : Chip) (agree : Agree a b) where
   write-row m n row over (same, used) =
       rw (← same)
       (by-test (λ (l k : Left). Alike (leaving l) (leaving k)) (eqb m 0) _ _ _ _
-      (λ none.
-      let entry = used (eqb-true m 0 none) in (
+      (λ none. done (used (eqb-true m 0 none))) (λ some. (refl, agree, nothing-changes a b)))
+    where
+      done : rowAt (a .rows) row ≡ rowAt (b .rows) row
+          → Alike (leaving (oneRow 0 (a .rows) (a .state) row (over (rowAt (a .rows) row))))
+          (leaving (oneRow 0 (b .rows) (b .state) row (over (rowAt (b .rows) row))))
+      done entry = (
         ap (λ (old : ℕ). spent 0 (over old .pulses)) entry,
         still-agree a b agree _ _ _ _ (keys-stay (a .state) _ _ _) (keys-stay (b .state) _ _ _)
             (length-set (a .rows) row _) (length-set (b .rows) row _) (agree .levels)
-            (λ domain page. le-refl (shownLevel (a .state) domain page))
-            (λ at there.
-            ap (λ (old : ℕ). rowAt (set (a .rows) row (over old .row)) at) entry ∙ set-alike (a .rows) (b .rows) row _ at (agree .lengths) there),
-      ))
-      (λ some. (refl, agree)))
+            (λ domain page. le-refl (shownLevel (a .state) domain page)) entries,
+        still-same a b agree _ _ _ _ (keys-stay (a .state) _ _ _) (keys-stay (b .state) _ _ _) entries (λ domain same. same),
+      )
+        where
+          entries : (at : ℕ) → rowAt (a .rows) at ≡ rowAt (b .rows) at
+              → rowAt (set (a .rows) row (over (rowAt (a .rows) row) .row)) at ≡ rowAt (set (b .rows) row (over (rowAt (b .rows) row) .row)) at
+          entries at there =
+              ap (λ (old : ℕ). rowAt (set (a .rows) row (over old .row)) at) entry ∙ set-alike (a .rows) (b .rows) row _ at (agree .lengths) there
 
   write-raw : (row value : ℕ) → Alike (leaving (writeRaw (a .rows) (a .state) 1 row value)) (leaving (writeRaw (b .rows) (b .state) 1 row value))
   unfolding writeRaw callRungs rowRungs
@@ -150,11 +181,21 @@ module _ (a b : Chip) (agree : Agree a b) where
         (λ other at. shown-after (a .state) other at ∙ rw (agree .levels domain page, agree .levels other at) (sym (shown-after (b .state) other at)))
         (advanced-raises (a .state) domain page level) (λ row there. there)
 
+    -- the same test on both, and the same level set
+    advanced-same : SameAsBefore a b (withState a (advanced (a .state) domain page level)) (withState b (advanced (b .state) domain page level))
+    advanced-same =
+        still-same a b agree _ _ _ _ (advanced-keeps (a .state) domain page level) (advanced-keeps (b .state) domain page level) (λ row there. there)
+        (λ other same.
+        rw (agree .levels domain page)
+        (by-test (λ (x y : State). levelsOf x other ≡ levelsOf y other) (leb level (shownLevel (b .state) domain page)) _ _ _ _ (λ stays. same)
+        (λ rises. set-same (a .state) (b .state) page level (eqb domain 0) (eqb domain 1) (eqb other 0) (eqb other 1) same)))
+
   advance-lock : (domain page level : ℕ) → Alike (stated a (advance (a .state) 1 domain page level)) (stated b (advance (b .state) 1 domain page level))
   unfolding advance
   advance-lock domain page level =
       by-test (λ (o p : Outcome). Alike (stated a o) (stated b p)) (eqb (advanceNumber 1 domain page level) 0) _ _ _ _
-      (λ none. (refl, advanced-agree domain page level (eqb-true _ 0 none))) (λ some. (refl, agree))
+      (λ none. let is-none = eqb-true _ 0 none in (refl, advanced-agree domain page level is-none, advanced-same domain page level is-none))
+      (λ some. (refl, agree, nothing-changes a b))
 
   show-lock : (domain page : ℕ) → showLock (a .state) 1 domain page ≡ showLock (b .state) 1 domain page
   unfolding showLock
@@ -162,18 +203,22 @@ module _ (a b : Chip) (agree : Agree a b) where
 
   each-alike : {call : Call} → ByNonsecure call → Alike (perform a call) (perform b call)
   unfolding perform
-  each-alike (ByNonsecure.rawRead {row}) = (read-raw row, agree)
-  each-alike (ByNonsecure.eccRead {row}) = (read-ecc row, agree)
-  each-alike (ByNonsecure.vote {row} {count}) = (read-vote row count, agree)
+  each-alike (ByNonsecure.rawRead {row}) = only-answered (read-raw row)
+  each-alike (ByNonsecure.eccRead {row}) = only-answered (read-ecc row)
+  each-alike (ByNonsecure.vote {row} {count}) = only-answered (read-vote row count)
   each-alike (ByNonsecure.rawWrite {row} {value}) = write-raw row value
   each-alike (ByNonsecure.eccWrite {row} {value}) = write-ecc row value
   each-alike (ByNonsecure.advance {domain} {page} {level}) = advance-lock domain page level
-  each-alike (ByNonsecure.show {domain} {page}) = (show-lock domain page, agree)
+  each-alike (ByNonsecure.show {domain} {page}) = only-answered (show-lock domain page)
 
 pub nothingLearnt : NothingLearnt
 unfolding performAll answersOf _among_
-nothingLearnt a b [] all agree = (refl, agree)
+nothingLearnt a b [] all agree = (refl, agree, nothing-changes a b)
 nothingLearnt a b (call ∷ others) all agree =
     let here = each-alike a b agree (all call (inl refl)) in
     let rest = nothingLearnt (perform a call .chip) (perform b call .chip) others (λ one later. all one (inr later)) (here .1) in
-    (ap₂ (λ (first : Answer) (more : List Answer). first ∷ more) (here .0) (rest .0), rest .1)
+    (
+      ap₂ (λ (first : Answer) (more : List Answer). first ∷ more) (here .0) (rest .0),
+      rest .1,
+      same-through (here .2) (rest .2),
+    )

@@ -1,8 +1,8 @@
--- A refusal changes nothing, and the definitions leave no room: a result that is what they say is the only one.
+-- A refusal changes nothing.
 -- Assumes nothing.
 use mathlib.Core.Logic.{_⊎_, inl, inr}
 use mathlib.Core.List.{List}
-use mathlib.Core.Path.{_≡_, refl, sym, _∙_}
+use mathlib.Core.Path.{_≡_, refl}
 use Prim.Native.Nat.{ℕ}
 use lib.Dec.{eqb}
 use Rattle.row.specs.Answers.{refused}
@@ -20,7 +20,7 @@ use Rattle.access.specs.Writes.{writeRawNumber, writeEccNumber, writeRaw, write
 use Rattle.job.specs.Jobs.{runJob, rehearse}
 use Rattle.job.specs.Verdicts.{verdictOf}
 use Rattle.laws.specs.Calls.{Chip, Call, Result, only, stated, leaving, aReset, aRawRead, anEccRead, aVote, aRawWrite, anEccWrite, anAdvance, aShow, aKey, aJob, aRehearsal, perform}
-use Rattle.laws.specs.Promises.{RefusalKeeps, NoRoom}
+use Rattle.laws.specs.Promises.{RefusalKeeps}
 use Rattle.row.proofs.Choices.{both-ways}
 use Rattle.row.proofs.Ladders.{read-or-8}
 
@@ -81,6 +81,3 @@ refusalKeeps chip call = go (each-call (chip .rows) (chip .state) call)
     go (read caller row is none) some = absurd (some none)
     go (finished none condition polarity) some = absurd (some none)
     go (refusal value condition polarity pulses same) some = (value, condition, polarity, pulses, same)
-
-pub noRoom : NoRoom
-noRoom Arguments Outcome definition arguments a b first second = first ∙ sym second

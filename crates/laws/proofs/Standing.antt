@@ -133,7 +133,8 @@ stands-to job (suc n) i rows limit long (Rising.more low high rest) =
 module _ (rows : List ℕ) (state : State) (job : List ℕ) where
   abbrev Placed : Left → Type 0
   Placed left =
-      ((i : ℕ) → i < left .outcome .answer .place → Stands rows (left .rows) (entryAt job i))
+      (left .outcome .answer .place ≤ countOf job)
+      × ((i : ℕ) → i < left .outcome .answer .place → Stands rows (left .rows) (entryAt job i))
       × (left .outcome .answer .place < countOf job → Stands rows (left .rows) (entryAt job (left .outcome .answer .place)) → ⊥)
 
   rehearsal-placed : (limit : ℕ) → rehearse rows state job limit .outcome .answer .number ≡ 0 → Placed (rehearse rows state job limit)
@@ -144,6 +145,7 @@ module _ (rows : List ℕ) (state : State) (job : List ℕ) where
       let parts = accepted rows state job none in
       let stands = stands-to job (countOf job) 0 rows limit (whole rows (parts .0)) (sound-rising (entriesOf job) 0 0 (order-sound job (parts .1))) in
       rw (carried (verdictOf rows state job) rows state p none) (
+        place-few job (countOf job) 0 rows limit,
         λ i to. stands .0 i (omega arith) (omega arith),
         λ below at-place. stands .1 below (rw (zero-add (p .place)) at-place),
       )

@@ -1,4 +1,5 @@
--- Two chips that agree still do after a call that leaves their keys alone, lowers no level, and changes entries alike.
+-- Two chips that agree still do after a call that leaves their keys alone, lowers no level, and changes entries alike; and what was the
+-- same of them still is.
 -- Assumes nothing.
 use mathlib.Core.Bool.{Bool, true, false, not, _&&_, _||_, and-eq-true-iff}
 use mathlib.Core.List.{List}
@@ -8,7 +9,7 @@ use native.Mathlib.Omega.{arith}
 use borrow.Author.Tests.{leb-true, le-leb}
 use lib.Dec.{eqb, leb}
 use lib.ListN.{length}
-use Rattle.chip.specs.Callers.{shownLevel}
+use Rattle.chip.specs.Callers.{levelsOf, shownLevel}
 use Rattle.chip.specs.Keys.{matches, keyLevel, hidden}
 use Rattle.chip.specs.Pages.{isLockRow, owner}
 use Rattle.chip.specs.Permission.{rowKeyLevel, mayRead}
@@ -16,7 +17,7 @@ use Rattle.chip.specs.Slices.{rowAt}
 use Rattle.chip.specs.declared.state.State.{State}
 use Rattle.latch.specs.Calls.{advanced}
 use Rattle.laws.specs.Calls.{Chip}
-use Rattle.laws.specs.Plugins.{knows, Agree}
+use Rattle.laws.specs.Plugins.{knows, Agree, SameAsBefore}
 use Rattle.row.proofs.Choices.{both-ways}
 
 -- ---- keys that stay
@@ -103,3 +104,27 @@ module _ (a b : Chip) (agree : Agree a b) (rows-a rows-b : List ℕ) (state-a st
     keyLevels = λ row. rw (key-level-stays (a .state) state-a stay-a row, key-level-stays (b .state) state-b stay-b row) (agree .keyLevels row);
     entries = λ row low known. entries row (agree .entries row low (known-before (a .state) state-a stay-a rise row known));
   }
+
+  -- of key indexes too nothing is left to say
+  pub still-same : ((row : ℕ) → rowAt (a .rows) row ≡ rowAt (b .rows) row → rowAt rows-a row ≡ rowAt rows-b row)
+      → ((domain : ℕ) → levelsOf (a .state) domain ≡ levelsOf (b .state) domain → levelsOf state-a domain ≡ levelsOf state-b domain)
+      → SameAsBefore a b LeftA LeftB
+  still-same entries levels = record {
+    entries = entries;
+    levels = levels;
+    writeKeys = λ same. rw (stay-a .writekey, stay-b .writekey) same;
+    readKeys = λ same. rw (stay-a .readkey, stay-b .readkey) same;
+  }
+
+-- a call that changes neither chip
+pub nothing-changes : (a b : Chip) → SameAsBefore a b a b
+nothing-changes a b = record { entries = λ row same. same; levels = λ domain same. same; writeKeys = λ same. same; readKeys = λ same. same }
+
+-- one call after another
+pub same-through : {a b a' b' a'' b'' : Chip} → SameAsBefore a b a' b' → SameAsBefore a' b' a'' b'' → SameAsBefore a b a'' b''
+same-through first second = record {
+  entries = λ row same. second .entries row (first .entries row same);
+  levels = λ domain same. second .levels domain (first .levels domain same);
+  writeKeys = λ same. second .writeKeys (first .writeKeys same);
+  readKeys = λ same. second .readKeys (first .readKeys same);
+}

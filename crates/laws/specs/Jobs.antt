@@ -44,11 +44,13 @@ PlaceRefused =
 abbrev pub Stands : List ℕ → List ℕ → Entry → Type 0
 Stands rows left e = In (writtenOver rows e .row) (rowAt left (e .row))
 
--- when done, the number of leading entries whose bits all stand: each below the place stands, and the one at the place, if there is one, does not
+-- when done, the number of leading entries whose bits all stand: at most all of them, each below the place stands, and the one at the
+-- place, if there is one, does not
 abbrev pub PlaceStands : Type 0
 PlaceStands =
     (chip : Chip) (job : List ℕ) (call : Call) → RunsJob job call → perform chip call .answer .number ≡ 0
-    → ((i : ℕ) → i < perform chip call .answer .place → Stands (chip .rows) (perform chip call .chip .rows) (entryAt job i))
+    → (perform chip call .answer .place ≤ countOf job)
+    × ((i : ℕ) → i < perform chip call .answer .place → Stands (chip .rows) (perform chip call .chip .rows) (entryAt job i))
     × (perform chip call .answer .place < countOf job
     → Stands (chip .rows) (perform chip call .chip .rows) (entryAt job (perform chip call .answer .place)) → ⊥)
 

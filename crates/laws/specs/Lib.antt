@@ -3,6 +3,7 @@ pub mod Writes
 pub mod Votes
 pub mod Worked
 pub mod Calls
+pub mod Contracts
 pub mod Numbers
 pub mod Promises
 pub mod Conditions

@@ -5,7 +5,7 @@ use mathlib.Core.Bool.{Bool, true, false, not, _&&_, _||_}
 use mathlib.Core.List.{List, _∷_}
 use mathlib.Core.Path.{_≡_}
 use lib.ListN.{length, replicate, set}
-use Rattle.chip.specs.Callers.{shownLevel}
+use Rattle.chip.specs.Callers.{levelsOf, shownLevel}
 use Rattle.chip.specs.Keys.{keyAt, hidden}
 use Rattle.chip.specs.Pages.{isLockRow}
 use Rattle.chip.specs.Permission.{rowKeyLevel, mayRead}
@@ -46,11 +46,21 @@ pub data ByNonsecure : Call → Type 0 where
   advance : {domain page level : ℕ} → ByNonsecure (anAdvance 1 domain page level)
   show : {domain page : ℕ} → ByNonsecure (aShow 1 domain page)
 
--- nothing else is learnt: any list of such calls is answered alike by two chips that agree, and they agree again afterwards
+-- what was the same of two chips still is, of what is left of them, whatever Non-secure may know by then: each entry, and each latched
+-- array of levels and of key indexes
+pub record SameAsBefore (a b leftA leftB : Chip) : Type 0 where
+  pub entries : (row : ℕ) → rowAt (a .rows) row ≡ rowAt (b .rows) row → rowAt (leftA .rows) row ≡ rowAt (leftB .rows) row
+  pub levels : (domain : ℕ) → levelsOf (a .state) domain ≡ levelsOf (b .state) domain → levelsOf (leftA .state) domain ≡ levelsOf (leftB .state) domain
+  pub writeKeys : a .state .writekey ≡ b .state .writekey → leftA .state .writekey ≡ leftB .state .writekey
+  pub readKeys : a .state .readkey ≡ b .state .readkey → leftA .state .readkey ≡ leftB .state .readkey
+
+-- nothing else is learnt: any list of such calls is answered alike by two chips that agree, they agree again afterwards, and what was the
+-- same of them still is
 abbrev pub NothingLearnt : Type 0
 NothingLearnt =
     (a b : Chip) (calls : List Call) → ((call : Call) → call among calls → ByNonsecure call) → Agree a b
     → (answersOf a calls ≡ answersOf b calls) × Agree (performAll a calls) (performAll b calls)
+    × SameAsBefore a b (performAll a calls) (performAll b calls)
 
 -- ---- two chips that agree, and differ in all that may differ
 

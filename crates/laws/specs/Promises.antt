@@ -35,16 +35,6 @@ RefusalKeeps =
     → (perform chip call .answer .value ≡ 0) × (perform chip call .answer .condition ≡ Clean)
     × (perform chip call .answer .polarity ≡ Plain) × (perform chip call .answer .pulses ≡ 0) × (perform chip call .chip ≡ chip)
 
--- what a contract here allows: the one outcome that a definition gives at the arguments
-abbrev pub Allows : {Arguments Outcome : Type 0} → (Arguments → Outcome) → Arguments → Outcome → Type 0
-Allows definition arguments outcome = outcome ≡ definition arguments
-
--- any two outcomes that such a contract allows are equal
-abbrev pub NoRoom : Type 1
-NoRoom =
-    (Arguments Outcome : Type 0) (definition : Arguments → Outcome) (arguments : Arguments) (a b : Outcome)
-    → Allows definition arguments a → Allows definition arguments b → a ≡ b
-
 -- no burnt bit clears, over any calls
 abbrev pub NoBitClears : Type 0
 NoBitClears = (chip : Chip) (calls : List Call) (row : ℕ) → In (rowAt (chip .rows) row) (rowAt (performAll chip calls .rows) row)
@@ -65,8 +55,9 @@ abbrev pub WriteReadsBack : Type 0
 WriteReadsBack =
     (rows : List ℕ) (state : State) (writer reader row value : ℕ)
     → writeEcc rows state writer row value .outcome .answer .number ≡ 0
-    → readEccNumber (writeEcc rows state writer row value .rows) state reader row ≡ 0
-    → readEcc (writeEcc rows state writer row value .rows) state reader row ≡ foundIn (burntIn (rowAt rows row) value) value Clean
+    → readEccNumber (writeEcc rows state writer row value .rows) (writeEcc rows state writer row value .outcome .state) reader row ≡ 0
+    → readEcc (writeEcc rows state writer row value .rows) (writeEcc rows state writer row value .outcome .state) reader row
+    ≡ foundIn (burntIn (rowAt rows row) value) value Clean
 
 -- who may write a row may read it
 abbrev pub MayWriteMayRead : Type 0
