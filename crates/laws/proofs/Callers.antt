@@ -10,14 +10,14 @@ use native.Mathlib.Omega.{arith}
 use borrow.Author.Tests.{eq-eqb, le-ltb, le-leb, leb-true}
 use lib.Dec.{eqb, leb}
 use Rattle.row.specs.Rungs.{_when_, firstOf}
-use Rattle.chip.specs.Callers.{shownLevel}
 use Rattle.chip.specs.Pages.{isLockRow}
 use Rattle.chip.specs.Permission.{rowKeyLevel, callerLevel, mayRead, mayWrite}
 use Rattle.chip.specs.declared.state.State.{State}
-use Rattle.latch.specs.Calls.{advanced}
+use Rattle.latch.specs.Calls.{advance}
 use Rattle.laws.specs.Callers.{BootloaderExactly, BootloaderWithinSecure, BootloaderLevelsStay, SevenToBootloader, ShownToAll, PermissionStays, NumbersStay}
 use Rattle.row.proofs.Choices.{both-ways}
 use Rattle.laws.proofs.Permits.{all-zero}
+use Rattle.laws.proofs.Locking.{advance-asked}
 use Rattle.laws.proofs.WithoutReset.{by-calls}
 
 -- ---- rows
@@ -71,15 +71,16 @@ bootloaderWithinSecure state row = (
 abbrev SameBootloader : State → State → Type 0
 SameBootloader before after = after .bootloader ≡ before .bootloader
 
-advanced-keeps : (state : State) (domain page level : ℕ) → SameBootloader state (advanced state domain page level)
-advanced-keeps state domain page level =
-    both-ways (SameBootloader state) (leb level (shownLevel state domain page)) _ _ refl
+advance-keeps : (state : State) (caller domain page level : ℕ) → advance state caller domain page level .answer .number ≡ 0
+    → SameBootloader state (advance state caller domain page level .state)
+advance-keeps state caller domain page level done =
+    rw (advance-asked state caller domain page level done)
     (both-ways (SameBootloader state) (eqb domain 0) _ _ refl (both-ways (SameBootloader state) (eqb domain 1) _ _ refl refl))
 
 pub bootloaderLevelsStay : BootloaderLevelsStay
 bootloaderLevelsStay =
     by-calls SameBootloader (λ state. refl) (λ a b c first second. second ∙ first)
-    advanced-keeps (λ state words. refl) (λ state tallies. refl)
+    advance-keeps (λ state words. refl) (λ state tallies. refl)
 
 pub sevenToBootloader : SevenToBootloader
 sevenToBootloader = (

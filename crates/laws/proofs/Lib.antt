@@ -13,6 +13,7 @@ pub mod TwoWrong
 pub mod Conditions
 pub mod Burning
 pub mod WithoutReset
+pub mod Raised
 pub mod Locking
 pub mod Callers
 pub mod CallWrites

@@ -1,90 +1,33 @@
 -- Locks: until a reset no counted level falls, and a reset goes by the rows alone.
 -- Assumes nothing.
-use mathlib.Core.Bool.{Bool, true, false, _||_, true≢false}
-use mathlib.Core.List.{List, [], _∷_}
+use mathlib.Core.Bool.{Bool, true, false, _||_}
 use mathlib.Core.Path.{_≡_, refl, sym, ap, _∙_}
-use Prim.Native.Nat.{ℕ, zero, suc, _≤_, _<_, min, max}
-use native.Mathlib.Nat.{le-refl, le-trans, le-of-lt, min-eq-left, min-le-right, max-eq-left, max-eq-right}
+use Prim.Native.Nat.{ℕ, _≤_, min}
+use native.Mathlib.Nat.{le-refl, le-trans, le-of-eq, min-eq-left, min-le-right}
 use native.Mathlib.Omega.{arith}
-use borrow.Author.Tests.{eq-eqb, eqb-true, eqb-false, leb-true, leb-false, ltb-false}
-use lib.Dec.{eqb, leb, ltb}
-use lib.ListN.{set}
-use lib.Seq.{getD-set-other}
-use Rattle.row.specs.Choice.{if_then_else_}
+use borrow.Author.Tests.{eq-eqb, eqb-true, eqb-false, ltb-false}
+use lib.Dec.{eqb, ltb}
 use Rattle.chip.specs.Callers.{noCaller, noDomain, shownLevel}
 use Rattle.chip.specs.Lists.{listed}
 use Rattle.chip.specs.Pages.{highLockRow}
 use Rattle.chip.specs.Slices.{rowAt}
-use Rattle.chip.specs.States.{countedLevel, withSecure, withNonsecure}
+use Rattle.chip.specs.States.{countedLevel}
 use Rattle.chip.specs.declared.state.State.{State}
 use Rattle.chip.specs.declared.state.Outcome.{Outcome}
 use Rattle.latch.specs.Locks.{levelOf, secureField, nonsecureField, bootloaderField}
 use Rattle.latch.specs.Resetting.{latched, resetNumber, reset}
-use Rattle.latch.specs.Calls.{advanceNumber, withLevel, advanced, advance}
+use Rattle.latch.specs.Calls.{advanceNumber, advanced, advance}
 use Rattle.laws.specs.Promises.{NoLockFalls, SoftLocksFallBack, LevelsFallBack, AdvanceLeavesHigher, AdvanceLeavesOthers}
 use Rattle.row.proofs.Choices.{own-number}
 use Rattle.row.proofs.Ladders.{passed}
 use Rattle.chip.proofs.Lists.{listed-at}
 use Rattle.laws.proofs.Latches.{reset-state}
+use Rattle.laws.proofs.Raised.{asked, asked-is, asked-shown, asked-others}
 use Rattle.laws.proofs.WithoutReset.{by-calls}
 
 pub softLocksFallBack : SoftLocksFallBack
 unfolding reset
 softLocksFallBack rows a b e = rw (eq-eqb (resetNumber rows) 0 e)
-
--- ---- a level that is set
-
--- no lower than the counted one, it lowers none
-set-raises : (levels : List ℕ) (page level : ℕ) → countedLevel levels page ≤ level
-    → (other : ℕ) → countedLevel levels other ≤ countedLevel (set levels page level) other
-set-raises [] page level h other = le-refl 2
-set-raises (old ∷ others) zero level h zero = omega arith
-set-raises (old ∷ others) zero level h (suc other) = le-refl (countedLevel others other)
-set-raises (old ∷ others) (suc page) level h zero = le-refl (countedLevel (old ∷ others) 0)
-set-raises (old ∷ others) (suc page) level h (suc other) = set-raises others page level h other
-
--- a higher one is what is then shown
-set-shown : (levels : List ℕ) (page level : ℕ) → countedLevel levels page < level → level ≤ 2 → countedLevel (set levels page level) page ≡ level
-set-shown [] page level higher low = omega arith
-set-shown (old ∷ others) zero level higher low = min-eq-left low
-set-shown (old ∷ others) (suc page) level higher low = set-shown others page level higher low
-
-set-others : (levels : List ℕ) (page level other : ℕ) → (other ≡ page → ⊥) → countedLevel (set levels page level) other ≡ countedLevel levels other
-set-others levels page level other different = ap (λ (l : ℕ). min l 2) (getD-set-other levels page other level 2 different)
-
--- ---- of the three domains, Secure, Non-secure or neither, one is advanced and any is shown
-
-module _ (state : State) (page level : ℕ) where
-  abbrev shown : State → Bool → Bool → ℕ → ℕ
-  shown s secure nonsecure at = countedLevel (if secure then s .secure else if nonsecure then s .nonsecure else s .bootloader) at
-
-  abbrev left : Bool → Bool → State
-  left secure nonsecure =
-      if secure then withSecure state (set (state .secure) page level)
-      else if nonsecure then withNonsecure state (set (state .nonsecure) page level)
-      else state
-
-  left-raises : (s n : Bool) → shown state s n page ≤ level → (s' n' : Bool) (at : ℕ) → shown state s' n' at ≤ shown (left s n) s' n' at
-  left-raises true n h true n' at = set-raises (state .secure) page level h at
-  left-raises true n h false n' at = le-refl (shown state false n' at)
-  left-raises false true h true n' at = le-refl (countedLevel (state .secure) at)
-  left-raises false true h false true at = set-raises (state .nonsecure) page level h at
-  left-raises false true h false false at = le-refl (countedLevel (state .bootloader) at)
-  left-raises false false h s' n' at = le-refl (shown state s' n' at)
-
-  left-shown : (s n : Bool) → (s || n) ≡ true → level ≤ 2 → shown state s n page < level → shown (left s n) s n page ≡ level
-  left-shown true n soft low higher = set-shown (state .secure) page level higher low
-  left-shown false true soft low higher = set-shown (state .nonsecure) page level higher low
-  left-shown false false soft low higher = absurd (true≢false (sym soft))
-
-  left-others : (s n s' n' : Bool) (at : ℕ) → (s ≡ true → s' ≡ true → at ≡ page → ⊥) → (n ≡ true → n' ≡ true → at ≡ page → ⊥)
-      → shown (left s n) s' n' at ≡ shown state s' n' at
-  left-others true n true n' at in-secure in-nonsecure = set-others (state .secure) page level at (in-secure refl refl)
-  left-others true n false n' at in-secure in-nonsecure = refl
-  left-others false true true n' at in-secure in-nonsecure = refl
-  left-others false true false true at in-secure in-nonsecure = set-others (state .nonsecure) page level at (in-nonsecure refl refl)
-  left-others false true false false at in-secure in-nonsecure = refl
-  left-others false false s' n' at in-secure in-nonsecure = refl
 
 -- ---- a done advance
 
@@ -104,9 +47,15 @@ module _ (state : State) (caller domain page level : ℕ) (done : advance state 
   advance-number =
       sym (own-number (λ (o : Outcome). o .answer .number) (advanceNumber caller domain page level) _ _ refl refl) ∙ done
 
+  range : (domain ≤ 1) × (level ≤ 2)
+  range = in-range caller domain page level advance-number
+
   pub advance-state : advance state caller domain page level .state ≡ advanced state domain page level
   unfolding advance
   advance-state = rw (eq-eqb (advanceNumber caller domain page level) 0 advance-number)
+
+  pub advance-asked : advance state caller domain page level .state ≡ asked (eqb domain 0) (eqb domain 1) state page level
+  advance-asked = advance-state ∙ asked-is state page level (range .1) domain
 
 -- a domain of the two that have soft locks is one of them
 secure-or-not : (domain : ℕ) → domain ≤ 1 → (eqb domain 0 || eqb domain 1) ≡ true
@@ -118,30 +67,18 @@ secure-or-not domain low = go (eqb domain 0) refl
 
 pub advanceLeavesHigher : AdvanceLeavesHigher
 advanceLeavesHigher state caller domain page level done =
-    rw (advance-state state caller domain page level done) (go (leb level (shownLevel state domain page)) refl)
-  where
-    go : (t : Bool) → leb level (shownLevel state domain page) ≡ t
-        → shownLevel (if t then state else withLevel state domain page level) domain page ≡ max (shownLevel state domain page) level
-    go true e = sym (max-eq-left (leb-true level _ e))
-    go false e =
-        let range = in-range caller domain page level (advance-number state caller domain page level done) in
-        let higher = leb-false level _ e in
-        left-shown state page level (eqb domain 0) (eqb domain 1) (secure-or-not domain (range .0)) (range .1) higher
-        ∙ sym (max-eq-right (le-of-lt higher))
+    let soft = range state caller domain page level done in
+    rw (advance-asked state caller domain page level done)
+    (asked-shown state page level (eqb domain 0) (eqb domain 1) (secure-or-not domain (soft .0)) (soft .1))
 
 pub advanceLeavesOthers : AdvanceLeavesOthers
 advanceLeavesOthers state caller domain page level done other-domain other-page different =
-    rw (advance-state state caller domain page level done) (go (leb level (shownLevel state domain page)))
+    rw (advance-asked state caller domain page level done)
+    (asked-others state page level (eqb domain 0) (eqb domain 1) (eqb other-domain 0) (eqb other-domain 1) other-page
+    (λ a b. different (same 0 a b)) (λ a b. different (same 1 a b)))
   where
     same : (d : ℕ) → eqb domain d ≡ true → eqb other-domain d ≡ true → other-domain ≡ domain
     same d a b = eqb-true other-domain d b ∙ sym (eqb-true domain d a)
-
-    go : (t : Bool)
-        → shownLevel (if t then state else withLevel state domain page level) other-domain other-page ≡ shownLevel state other-domain other-page
-    go true = refl
-    go false =
-        left-others state page level (eqb domain 0) (eqb domain 1) (eqb other-domain 0) (eqb other-domain 1) other-page
-        (λ a b. different (same 0 a b)) (λ a b. different (same 1 a b))
 
 -- ---- a done reset
 
@@ -164,16 +101,22 @@ NoneFalls before after = (domain page : ℕ) → shownLevel before domain page �
 none-falls : (state : State) → NoneFalls state state
 none-falls state domain page = le-refl (shownLevel state domain page)
 
-pub advanced-raises : (state : State) (domain page level : ℕ) → NoneFalls state (advanced state domain page level)
-advanced-raises state domain page level = go (leb level (shownLevel state domain page)) refl
+-- an advance shows the higher of two levels, or what was
+pub advance-raises : (state : State) (caller domain page level : ℕ) → advance state caller domain page level .answer .number ≡ 0
+    → NoneFalls state (advance state caller domain page level .state)
+advance-raises state caller domain page level done other at = go (eqb other domain) refl (eqb at page) refl
   where
-    go : (t : Bool) → leb level (shownLevel state domain page) ≡ t → NoneFalls state (if t then state else withLevel state domain page level)
-    go true e = none-falls state
-    go false e =
-        λ other. left-raises state page level (eqb domain 0) (eqb domain 1) (le-of-lt (leb-false level _ e)) (eqb other 0) (eqb other 1)
+    go : (d : Bool) → eqb other domain ≡ d → (p : Bool) → eqb at page ≡ p
+        → shownLevel state other at ≤ shownLevel (advance state caller domain page level .state) other at
+    go true d true p =
+        rw (eqb-true other domain d, eqb-true at page p, advanceLeavesHigher state caller domain page level done) (omega arith)
+    go true d false p =
+        le-of-eq (sym (advanceLeavesOthers state caller domain page level done other at (λ same-domain same-page. eqb-false at page p same-page)))
+    go false d t p =
+        le-of-eq (sym (advanceLeavesOthers state caller domain page level done other at (λ same-domain same-page. eqb-false other domain d same-domain)))
 
 pub noLockFalls : NoLockFalls
 noLockFalls chip calls domain page no-reset =
     by-calls NoneFalls none-falls
     (λ a b c first second domain page. le-trans (first domain page) (second domain page))
-    advanced-raises (λ state words. none-falls state) (λ state tallies. none-falls state) chip calls no-reset domain page
+    advance-raises (λ state words. none-falls state) (λ state tallies. none-falls state) chip calls no-reset domain page

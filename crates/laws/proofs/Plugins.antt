@@ -8,7 +8,7 @@ use Prim.Native.Nat.{ℕ, zero, suc, _-_, max}
 use native.Mathlib.Nat.{le-refl}
 use native.Mathlib.Omega.{arith}
 use borrow.Author.Tests.{eq-eqb, eqb-true, eqb-false}
-use lib.Dec.{eqb, ltb, leb}
+use lib.Dec.{eqb, ltb}
 use lib.ListN.{length, getD, set, length-set}
 use Rattle.row.specs.Answers.{told, spent, answered}
 use Rattle.row.specs.Choice.{if_then_else_}
@@ -18,10 +18,9 @@ use Rattle.row.specs.Writing.{eccWritten, rawWritten, neitherFits}
 use Rattle.row.specs.declared.answer.Answer.{Answer}
 use Rattle.row.specs.declared.writing.Written.{Written}
 use Rattle.vote.specs.Voting.{threshold, vote}
-use Rattle.chip.specs.Callers.{levelsOf, shownLevel}
+use Rattle.chip.specs.Callers.{shownLevel}
 use Rattle.chip.specs.Permission.{mayRead, mayWrite}
 use Rattle.chip.specs.Slices.{rowAt}
-use Rattle.chip.specs.States.{withSecure, withNonsecure}
 use Rattle.chip.specs.declared.state.State.{State}
 use Rattle.chip.specs.declared.state.Outcome.{Outcome}
 use Rattle.latch.specs.Calls.{advanceNumber, advanced, advance, showNumber, showLock}
@@ -33,10 +32,11 @@ use Rattle.access.specs.Writes.{writeRaw, writeEcc}
 use Rattle.laws.specs.Calls.{Chip, Call, Result, only, stated, leaving, perform, performAll, answersOf}
 use Rattle.laws.specs.Settings.{_among_}
 use Rattle.laws.specs.Plugins.{Agree, ByNonsecure, SameAsBefore, NothingLearnt}
-use Rattle.laws.proofs.StillAgree.{keys-stay, advanced-keeps, still-agree, still-same, nothing-changes, same-through}
+use Rattle.laws.proofs.StillAgree.{KeysStay, keys-stay, asked-keeps, still-agree, still-same, nothing-changes, same-through}
 use Rattle.laws.proofs.RefusedAlike.{Judged, same-read, same-write, on-one-row, on-a-group}
-use Rattle.laws.proofs.Locking.{advance-state, advanced-raises, advanceLeavesHigher, advanceLeavesOthers}
+use Rattle.laws.proofs.Locking.{NoneFalls, in-range, advance-state, advance-raises, advanceLeavesHigher, advanceLeavesOthers}
 use Rattle.laws.proofs.Permits.{mayWriteMayRead}
+use Rattle.laws.proofs.Raised.{asked, asked-is, asked-same}
 use Rattle.laws.proofs.Raising.{withState}
 
 -- ---- each call
@@ -62,25 +62,6 @@ set-alike (x ∷ xs) (y ∷ ys) zero value zero long same = refl
 set-alike (x ∷ xs) (y ∷ ys) zero value (suc at) long same = same
 set-alike (x ∷ xs) (y ∷ ys) (suc row) value zero long same = same
 set-alike (x ∷ xs) (y ∷ ys) (suc row) value (suc at) long same = set-alike xs ys row value at (omega (arith, long)) same
-
--- the same level set in two states, whichever domain it is of: levels that were the same still are
-module _ (a b : State) (page level : ℕ) where
-  abbrev levels : State → Bool → Bool → List ℕ
-  levels state secure nonsecure = if secure then state .secure else if nonsecure then state .nonsecure else state .bootloader
-
-  abbrev left : State → Bool → Bool → State
-  left state secure nonsecure =
-      if secure then withSecure state (set (state .secure) page level)
-      else if nonsecure then withNonsecure state (set (state .nonsecure) page level)
-      else state
-
-  set-same : (s n s' n' : Bool) → levels a s' n' ≡ levels b s' n' → levels (left a s n) s' n' ≡ levels (left b s n) s' n'
-  set-same true n true n' same = ap (λ (own : List ℕ). set own page level) same
-  set-same true n false n' same = same
-  set-same false true true n' same = same
-  set-same false true false true same = ap (λ (own : List ℕ). set own page level) same
-  set-same false true false false same = same
-  set-same false false s' n' same = same
 
 module _ (a b : Chip) (agree : Agree a b) where
   -- answered alike, the chips agree, and what was the same of them still is
@@ -153,6 +134,15 @@ module _ (a b : Chip) (agree : Agree a b) where
     unfolding advance
     is-done state = rw (eq-eqb (advanceNumber 1 domain page level) 0 none)
 
+    raised-by : (state : State) → advanced state domain page level ≡ asked (eqb domain 0) (eqb domain 1) state page level
+    raised-by state = asked-is state page level (in-range 1 domain page level none .1) domain
+
+    keeps : (state : State) → KeysStay state (advanced state domain page level)
+    keeps state = rw (raised-by state) (asked-keeps (eqb domain 0) (eqb domain 1) state page level)
+
+    raises : NoneFalls (a .state) (advanced (a .state) domain page level)
+    raises = rw (← advance-state (a .state) 1 domain page level (is-done (a .state))) (advance-raises (a .state) 1 domain page level (is-done (a .state)))
+
     -- goes by the level before alone
     shown-after : (state : State) (other at : ℕ)
         → shownLevel (advanced state domain page level) other at
@@ -176,19 +166,17 @@ module _ (a b : Chip) (agree : Agree a b) where
 
     advanced-agree : Agree (withState a (advanced (a .state) domain page level)) (withState b (advanced (b .state) domain page level))
     advanced-agree =
-        still-agree a b agree _ _ _ _ (advanced-keeps (a .state) domain page level) (advanced-keeps (b .state) domain page level)
+        still-agree a b agree _ _ _ _ (keeps (a .state)) (keeps (b .state))
         refl refl
         (λ other at. shown-after (a .state) other at ∙ rw (agree .levels domain page, agree .levels other at) (sym (shown-after (b .state) other at)))
-        (advanced-raises (a .state) domain page level) (λ row there. there)
+        raises (λ row there. there)
 
-    -- the same test on both, and the same level set
     advanced-same : SameAsBefore a b (withState a (advanced (a .state) domain page level)) (withState b (advanced (b .state) domain page level))
     advanced-same =
-        still-same a b agree _ _ _ _ (advanced-keeps (a .state) domain page level) (advanced-keeps (b .state) domain page level) (λ row there. there)
+        still-same a b agree _ _ _ _ (keeps (a .state)) (keeps (b .state)) (λ row there. there)
         (λ other same.
-        rw (agree .levels domain page)
-        (by-test (λ (x y : State). levelsOf x other ≡ levelsOf y other) (leb level (shownLevel (b .state) domain page)) _ _ _ _ (λ stays. same)
-        (λ rises. set-same (a .state) (b .state) page level (eqb domain 0) (eqb domain 1) (eqb other 0) (eqb other 1) same)))
+        rw (raised-by (a .state), raised-by (b .state))
+        (asked-same (eqb domain 0) (eqb domain 1) (eqb other 0) (eqb other 1) (a .state) (b .state) page level same))
 
   advance-lock : (domain page level : ℕ) → Alike (stated a (advance (a .state) 1 domain page level)) (stated b (advance (b .state) 1 domain page level))
   unfolding advance
@@ -216,8 +204,7 @@ unfolding performAll answersOf _among_
 nothingLearnt a b [] all agree = (refl, agree, nothing-changes a b)
 nothingLearnt a b (call ∷ others) all agree =
     let here = each-alike a b agree (all call (inl refl)) in
-    let rest = nothingLearnt (perform a call .chip) (perform b call .chip) others (λ one later. all one (inr later)) (here .1) in
-    (
+    let rest = nothingLearnt (perform a call .chip) (perform b call .chip) others (λ one later. all one (inr later)) (here .1) in (
       ap₂ (λ (first : Answer) (more : List Answer). first ∷ more) (here .0) (rest .0),
       rest .1,
       same-through (here .2) (rest .2),

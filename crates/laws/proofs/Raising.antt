@@ -1,85 +1,21 @@
 -- One advance call after another: two of one lock are one to the higher level, and two of any locks leave the same chip in either order.
 -- Assumes nothing.
 use mathlib.Core.Bool.{Bool, true, false}
-use mathlib.Core.List.{List, [], _∷_}
 use mathlib.Core.Path.{_≡_, refl, sym, ap, _∙_}
-use Prim.Native.Nat.{ℕ, zero, suc, _≤_, min, max}
+use Prim.Native.Nat.{ℕ, _≤_, max}
 use native.Mathlib.Omega.{arith}
-use borrow.Author.Tests.{eqb-true, leb-true, leb-false, le-ltb}
-use lib.Dec.{eqb, leb}
-use lib.ListN.{set}
+use borrow.Author.Tests.{eqb-true, le-ltb}
+use lib.Dec.{eqb}
 use Rattle.row.specs.Choice.{if_then_else_}
-use Rattle.chip.specs.States.{countedLevel, withSecure, withNonsecure}
+use Rattle.chip.specs.States.{withSecure, withNonsecure}
 use Rattle.chip.specs.declared.state.State.{State}
 use Rattle.chip.specs.declared.state.Outcome.{Outcome}
 use Rattle.latch.specs.Calls.{advanceNumber, advanced, advance}
 use Rattle.laws.specs.Calls.{Chip, Call, anAdvance, perform}
 use Rattle.laws.specs.Settings.{Advances}
-use Rattle.row.proofs.Choices.{both-ways, made-of}
+use Rattle.row.proofs.Choices.{made-of}
+use Rattle.laws.proofs.Raised.{raised-twice, raised-either, asked, asked-is}
 use Rattle.laws.proofs.Locking.{in-range}
-
--- ---- the levels of a domain
-
--- what asking for a level of a page leaves of them: there the higher of the two
-abbrev raised : List ℕ → ℕ → ℕ → List ℕ
-raised [] page level = []
-raised (old ∷ others) zero level = max old level ∷ others
-raised (old ∷ others) (suc page) level = old ∷ raised others page level
-
--- no level above 2 is asked for, so one that is latched stays
-raised-is : (levels : List ℕ) (page level : ℕ) → level ≤ 2
-    → (if leb level (countedLevel levels page) then levels else set levels page level) ≡ raised levels page level
-raised-is [] page level low = both-ways (λ (ls : List ℕ). ls ≡ []) (leb level 2) [] [] refl refl
-raised-is (old ∷ others) zero level low = go (leb level (min old 2)) refl
-  where
-    go : (t : Bool) → leb level (min old 2) ≡ t → (if t then old ∷ others else level ∷ others) ≡ max old level ∷ others
-    go true e = ap (λ (l : ℕ). l ∷ others) (omega (arith, leb-true level (min old 2) e))
-    go false e = ap (λ (l : ℕ). l ∷ others) (omega (arith, low, leb-false level (min old 2) e))
-raised-is (old ∷ others) (suc page) level low =
-    sym (made-of (λ (ls : List ℕ). old ∷ ls) (leb level (countedLevel others page)) others (set others page level))
-    ∙ ap (λ (ls : List ℕ). old ∷ ls) (raised-is others page level low)
-
-raised-twice : (levels : List ℕ) (page x y : ℕ) → raised (raised levels page x) page y ≡ raised levels page (max x y)
-raised-twice [] page x y = refl
-raised-twice (old ∷ others) zero x y = ap (λ (l : ℕ). l ∷ others) (omega arith)
-raised-twice (old ∷ others) (suc page) x y = ap (λ (ls : List ℕ). old ∷ ls) (raised-twice others page x y)
-
-raised-either : (levels : List ℕ) (p q x y : ℕ) → raised (raised levels p x) q y ≡ raised (raised levels q y) p x
-raised-either [] p q x y = refl
-raised-either (old ∷ others) zero zero x y = ap (λ (l : ℕ). l ∷ others) (omega arith)
-raised-either (old ∷ others) zero (suc q) x y = refl
-raised-either (old ∷ others) (suc p) zero x y = refl
-raised-either (old ∷ others) (suc p) (suc q) x y = ap (λ (ls : List ℕ). old ∷ ls) (raised-either others p q x y)
-
--- ---- the state
-
--- what asking for a level of a page leaves of it, in Secure, in Non-secure or in neither
-abbrev asked : Bool → Bool → State → ℕ → ℕ → State
-asked secure nonsecure state page level =
-    if secure then withSecure state (raised (state .secure) page level)
-    else if nonsecure then withNonsecure state (raised (state .nonsecure) page level)
-    else state
-
-module _ (state : State) (page level : ℕ) (low : level ≤ 2) where
-  by-test : (with-levels : List ℕ → State) (levels : List ℕ)
-      → (if leb level (countedLevel levels page) then with-levels levels else with-levels (set levels page level))
-      ≡ with-levels (raised levels page level)
-  by-test with-levels levels =
-      sym (made-of with-levels (leb level (countedLevel levels page)) levels (set levels page level))
-      ∙ ap with-levels (raised-is levels page level low)
-
-  asked-is : (domain : ℕ) → advanced state domain page level ≡ asked (eqb domain 0) (eqb domain 1) state page level
-  asked-is domain = go (eqb domain 0) (eqb domain 1)
-    where
-      go : (s n : Bool)
-          → (if leb level (countedLevel (if s then state .secure else if n then state .nonsecure else state .bootloader) page) then state
-          else if s then withSecure state (set (state .secure) page level)
-          else if n then withNonsecure state (set (state .nonsecure) page level)
-          else state)
-          ≡ asked s n state page level
-      go true n = by-test (withSecure state) (state .secure)
-      go false true = by-test (withNonsecure state) (state .nonsecure)
-      go false false = by-test (λ levels. state) (state .bootloader)
 
 asked-twice : (s n : Bool) (state : State) (page x y : ℕ) → asked s n (asked s n state page x) page y ≡ asked s n state page (max x y)
 asked-twice true n state page x y = ap (withSecure state) (raised-twice (state .secure) page x y)

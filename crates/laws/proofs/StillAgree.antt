@@ -7,7 +7,7 @@ use mathlib.Core.Path.{_≡_, refl}
 use Prim.Native.Nat.{ℕ, _≤_, max}
 use native.Mathlib.Omega.{arith}
 use borrow.Author.Tests.{leb-true, le-leb}
-use lib.Dec.{eqb, leb}
+use lib.Dec.{leb}
 use lib.ListN.{length}
 use Rattle.chip.specs.Callers.{levelsOf, shownLevel}
 use Rattle.chip.specs.Keys.{matches, keyLevel, hidden}
@@ -15,10 +15,10 @@ use Rattle.chip.specs.Pages.{isLockRow, owner}
 use Rattle.chip.specs.Permission.{rowKeyLevel, mayRead}
 use Rattle.chip.specs.Slices.{rowAt}
 use Rattle.chip.specs.declared.state.State.{State}
-use Rattle.latch.specs.Calls.{advanced}
 use Rattle.laws.specs.Calls.{Chip}
 use Rattle.laws.specs.Plugins.{knows, Agree, SameAsBefore}
 use Rattle.row.proofs.Choices.{both-ways}
+use Rattle.laws.proofs.Raised.{asked}
 
 -- ---- keys that stay
 
@@ -47,11 +47,9 @@ relocked state secure nonsecure tallies = record {
 pub keys-stay : (state : State) (secure nonsecure tallies : List ℕ) → KeysStay state (relocked state secure nonsecure tallies)
 keys-stay state secure nonsecure tallies = record { writekey = refl; readkey = refl; nokey = refl; keys = refl; entered = refl }
 
-pub advanced-keeps : (state : State) (domain page level : ℕ) → KeysStay state (advanced state domain page level)
-advanced-keeps state domain page level =
-    both-ways (KeysStay state) (leb level (shownLevel state domain page)) _ _ (keys-stay state _ _ _)
-    (both-ways (KeysStay state) (eqb domain 0) _ _ (keys-stay state _ _ _)
-    (both-ways (KeysStay state) (eqb domain 1) _ _ (keys-stay state _ _ _) (keys-stay state _ _ _)))
+pub asked-keeps : (s n : Bool) (state : State) (page level : ℕ) → KeysStay state (asked s n state page level)
+asked-keeps s n state page level =
+    both-ways (KeysStay state) s _ _ (keys-stay state _ _ _) (both-ways (KeysStay state) n _ _ (keys-stay state _ _ _) (keys-stay state _ _ _))
 
 module _ (before after : State) (stay : KeysStay before after) where
   key-level-stays : (row : ℕ) → rowKeyLevel after row ≡ rowKeyLevel before row
