@@ -3,7 +3,7 @@
  *
  * A chip has 4,096 rows of 24 bits, and a burnt bit never clears. This library says what a row reads as, what a write leaves in it,
  * who may do either, and what a job burns. It works on an image of the rows and touches no hardware. It keeps nothing between calls,
- * takes no memory but the stack, and needs memcpy and memset of the C library and nothing else.
+ * takes no memory but the stack, and needs nothing from outside but memory functions of the C library, which desk/README.md names.
  *
  * Each call is proved: for every input it answers exactly what its definition says, and it ends. The definitions follow document 01,
  * "Full scope and exact rules". The proof does not cover this header. It asserts the layout of each struct at compile time, and
