@@ -12,7 +12,7 @@ use Rattle.row.specs.Writing.{pulses}
 use Rattle.chip.specs.Slices.{rowAt}
 use Rattle.laws.specs.Writes.{In}
 use Rattle.laws.specs.Votes.{EachIn}
-use Rattle.laws.specs.Cuts.{newlySet}
+use Rattle.laws.specs.Writes.{newlySet}
 use Rattle.laws.proofs.Writes.{shared, inItself, inThrough, pulsesAdd, standsAlready}
 
 -- ---- an order

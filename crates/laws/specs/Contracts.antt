@@ -1,5 +1,4 @@
 -- What the contracts leave no room for (document 01): for each call what the `ensures` of its entry point says of the result.
-use Prim.Native.Nat.{ℕ}
 use mathlib.Core.Path.{_≡_}
 use Rattle.chip.specs.declared.state.Outcome.{Outcome}
 use Rattle.latch.specs.Calls.{advance, showLock, enterKey}

@@ -9,8 +9,3 @@ pub mod Promises
 pub mod Conditions
 pub mod LockRows
 pub mod Callers
-pub mod Cuts
-pub mod Jobs
-pub mod Tallies
-pub mod Settings
-pub mod Plugins

@@ -25,7 +25,6 @@ use Rattle.access.specs.Reads.{readEccNumber, readEcc}
 use Rattle.access.specs.Judging.{ecc, callRungs}
 use Rattle.access.specs.Writes.{writeRaw, writeEcc}
 use Rattle.laws.specs.Calls.{Chip, Call, aReset, aRawWrite, anEccWrite, aJob, aRehearsal, perform, performAll}
-use Rattle.laws.specs.Cuts.{newlySet}
 use Rattle.laws.specs.Writes.{In, burntIn}
 
 -- every refusal returns value 0, condition clean, plain, and 0 pulses, and leaves each row and the state unchanged
@@ -132,9 +131,3 @@ abbrev pub BurningLatchesNothing : Type 0
 BurningLatchesNothing =
     (chip : Chip) (call : Call) → Burns call
     → perform chip call .chip .state ≡ withTallies (chip .state) (perform chip call .chip .state .tallies)
-
--- pulses are the bits newly set, of every done call that burns
-abbrev pub PulsesAreNewBits : Type 0
-PulsesAreNewBits =
-    (chip : Chip) (call : Call) → Burns call → perform chip call .answer .number ≡ 0
-    → perform chip call .answer .pulses ≡ newlySet (chip .rows) (perform chip call .chip .rows)

@@ -1,5 +1,6 @@
 -- What is promised of writing a row (document 01, "A row with ECC" and "Jobs").
 use mathlib.Core.Bool.{true}
+use mathlib.Core.List.{List, [], _∷_}
 use mathlib.Core.Logic.{_⊎_, _↔_}
 use mathlib.Core.Path.{_≡_}
 use Prim.Native.Nat.{ℕ, _+_, _^_, _≤_, _<_}
@@ -75,3 +76,9 @@ InItself = (row : ℕ) → In row row
 
 abbrev pub InThrough : Type 0
 InThrough = (a b c : ℕ) → In a b → In b c → In a c
+
+-- the bits newly set between two slices
+unfoldable pub newlySet : List ℕ → List ℕ → ℕ
+newlySet [] news = 0
+newlySet (old ∷ olds) [] = 0
+newlySet (old ∷ olds) (new ∷ news) = pulses old new + newlySet olds news

@@ -1,0 +1,17 @@
+pub mod Agreement
+pub mod Ready
+pub mod Rising
+pub mod Rewriting
+pub mod Ranges
+pub mod Acceptance
+pub mod CutPower
+pub mod RehearsalCut
+pub mod Pulses
+pub mod Places
+pub mod Standing
+pub mod Turns
+pub mod PageRows
+pub mod Gains
+pub mod Counted
+pub mod Naming
+pub mod Tallies

@@ -1,0 +1,80 @@
+-- Pulses are the bits newly set, of every done call that burns.
+-- Assumes nothing.
+use mathlib.Core.List.{List}
+use mathlib.Core.Path.{_≡_, refl, sym, _∙_, subst}
+use Prim.Native.Nat.{ℕ, _<_}
+use borrow.Author.Tests.{eq-eqb}
+use lib.Dec.{ltb}
+use lib.ListN.{length}
+use Rattle.row.specs.Writing.{pulses, eccWritten, rawWritten}
+use Rattle.row.specs.declared.writing.Written.{Written}
+use Rattle.chip.specs.Permission.{mayWrite}
+use Rattle.chip.specs.Slices.{rowAt}
+use Rattle.chip.specs.declared.state.State.{State}
+use Rattle.access.specs.Burning.{Left, oneRow}
+use Rattle.access.specs.Judging.{raw}
+use Rattle.access.specs.Writes.{writeRawNumber, writeEccNumber, writeRaw, writeEcc}
+use Rattle.access.proofs.Passing.{whole, call-passed}
+use Rattle.form.specs.Entries.{entriesOf}
+use Rattle.job.specs.Burning.{rehearsed}
+use Rattle.job.specs.Jobs.{runJob, rehearse}
+use Rattle.job.specs.Verdicts.{verdictOf}
+use Rattle.form.proofs.Faulty.{order-sound}
+use Rattle.job.proofs.Whole.{accepted, whole-job}
+use Rattle.laws.specs.Calls.{perform}
+use Rattle.laws.specs.Writes.{newlySet}
+use Rattle.laws.specs.Promises.{Burns}
+use Rattle.cuts.specs.Pulses.{PulsesAreNewBits}
+use Rattle.cuts.proofs.Acceptance.{carried, carried-number}
+use Rattle.laws.proofs.Between.{new-set}
+use Rattle.laws.proofs.CallWrites.{allowed-by, left-rows}
+use Rattle.laws.proofs.Entries.{ecc-pulses}
+use Rattle.cuts.proofs.RehearsalCut.{rehearsed-cut}
+use Rattle.cuts.proofs.Rising.{sound-rising}
+
+-- what a call leaves, and the pulses that it answers, are of one making
+abbrev Counted : List ℕ → Left → Type 0
+Counted rows left = left .outcome .answer .pulses ≡ newlySet rows (left .rows)
+
+-- one row
+row-counted : (rows : List ℕ) (state : State) (row number : ℕ) (written : Written) → number ≡ 0 → row < length rows
+    → written .pulses ≡ pulses (rowAt rows row) (written .row) → Counted rows (oneRow number rows state row written)
+row-counted rows state row number written none inside counts =
+    rw (eq-eqb number 0 none) (counts ∙ sym (new-set rows row (written .row) inside))
+
+module _ (rows : List ℕ) (state : State) where
+  rehearsal-counted : (job : List ℕ) (limit : ℕ) → rehearse rows state job limit .outcome .answer .number ≡ 0
+      → Counted rows (rehearse rows state job limit)
+  unfolding rehearse
+  rehearsal-counted job limit done =
+      let none = carried-number (verdictOf rows state job) rows state (rehearsed rows limit (entriesOf job)) done in
+      let parts = accepted rows state job none in
+      rw (carried (verdictOf rows state job) rows state (rehearsed rows limit (entriesOf job)) none)
+      (rehearsed-cut limit (entriesOf job) (whole rows (parts .0)) (sound-rising (entriesOf job) 0 0 (order-sound job (parts .1))) .1)
+
+  -- a job is a rehearsal with enough pulses
+  job-counted : (job : List ℕ) → runJob rows state job .outcome .answer .number ≡ 0 → Counted rows (runJob rows state job)
+  job-counted job =
+      subst (λ (l : Left). l .outcome .answer .number ≡ 0 → Counted rows l) (whole-job rows state job) (rehearsal-counted job 12288)
+
+  raw-counted : (caller row value : ℕ) → writeRaw rows state caller row value .outcome .answer .number ≡ 0
+      → Counted rows (writeRaw rows state caller row value)
+  unfolding writeRaw
+  raw-counted caller row value done =
+      let none = left-rows rows state row (writeRawNumber rows state caller row value) (rawWritten (rowAt rows row) value) done .0 in
+      row-counted rows state row _ (rawWritten (rowAt rows row) value) none
+      (call-passed rows state caller row raw (ltb 16777215 value) (mayWrite state caller row) none .0) refl
+
+  ecc-counted : (caller row value : ℕ) → writeEcc rows state caller row value .outcome .answer .number ≡ 0
+      → Counted rows (writeEcc rows state caller row value)
+  unfolding writeEcc
+  ecc-counted caller row value done =
+      let none = left-rows rows state row (writeEccNumber rows state caller row value) (eccWritten (rowAt rows row) value) done .0 in
+      row-counted rows state row _ (eccWritten (rowAt rows row) value) none (allowed-by rows state caller row value none) (ecc-pulses (rowAt rows row) value)
+
+pub pulsesAreNewBits : PulsesAreNewBits
+unfolding perform
+pulsesAreNewBits chip _ (Burns.rawWrite {caller} {row} {value}) done = raw-counted (chip .rows) (chip .state) caller row value done
+pulsesAreNewBits chip _ (Burns.eccWrite {caller} {row} {value}) done = ecc-counted (chip .rows) (chip .state) caller row value done
+pulsesAreNewBits chip _ (Burns.job {bytes}) done = job-counted (chip .rows) (chip .state) bytes done
+pulsesAreNewBits chip _ (Burns.rehearsal {bytes} {limit}) done = rehearsal-counted (chip .rows) (chip .state) bytes limit done

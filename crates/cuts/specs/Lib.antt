@@ -1,0 +1,4 @@
+pub mod Cuts
+pub mod Pulses
+pub mod Jobs
+pub mod Tallies

@@ -1,0 +1,4 @@
+pub mod Raising
+pub mod AnyOrder
+pub mod Settings
+pub mod Showing

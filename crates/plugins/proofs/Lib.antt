@@ -1,0 +1,4 @@
+pub mod RefusedAlike
+pub mod StillAgree
+pub mod Plugins
+pub mod TwoChips
