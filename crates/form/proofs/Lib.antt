@@ -1,2 +1,3 @@
 pub mod Faulty
+pub mod Putting
 pub mod Upward

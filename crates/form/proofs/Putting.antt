@@ -1,0 +1,63 @@
+-- Bytes put into a job: two runs of bytes are one, what then stands at a place, and what stays as it was.
+-- Assumes nothing.
+use mathlib.Core.Path.{_≡_, refl, ap, _∙_}
+use mathlib.Core.List.{List, [], _∷_, _++_}
+use Prim.Native.Nat.{ℕ, zero, suc, _+_, _%_, _≤_, _<_}
+use native.Mathlib.Nat.{add-zero, not-suc-le-zero, le-of-suc-le-suc}
+use native.Mathlib.Omega.{arith}
+use lib.ListN.{length, getD, set, length-set}
+use lib.Seq.{getD-set-same, getD-set-other}
+use Rattle.form.specs.Entries.{byteAt}
+use Rattle.form.specs.Writing.{twoBytes, threeBytes, entryBytes, withBytes}
+use Rattle.form.specs.declared.entries.Entry.{Entry}
+
+-- some bytes, and then others
+pub then-bytes : (job : List ℕ) (at : ℕ) (first others : List ℕ)
+    → withBytes job at (first ++ others) ≡ withBytes (withBytes job at first) (at + length first) others
+unfolding withBytes
+then-bytes job at [] others = rw add-zero
+then-bytes job at (byte ∷ first) others =
+    let more : at + 1 + length first ≡ at + suc (length first) = omega arith in
+    then-bytes (set job at byte) (at + 1) first others ∙ ap (λ (n : ℕ). withBytes (withBytes (set job at byte) (at + 1) first) n others) more
+
+-- an entry's parts, one after the other
+pub entry-parts : (job : List ℕ) (at : ℕ) (entry : Entry)
+    → withBytes job at (entryBytes entry)
+    ≡ withBytes (set (withBytes job at (twoBytes (entry .row))) (at + 2) (entry .kind % 256)) (at + 3) (threeBytes (entry .value))
+unfolding withBytes
+entry-parts job at entry =
+    let third : at + 2 + 1 ≡ at + 3 = omega arith in
+    then-bytes job at (twoBytes (entry .row)) (entry .kind % 256 ∷ threeBytes (entry .value))
+    ∙ ap (λ (n : ℕ). withBytes (set (withBytes job at (twoBytes (entry .row))) (at + 2) (entry .kind % 256)) n (threeBytes (entry .value))) third
+
+-- a job is as long as it was
+pub length-stays : (job : List ℕ) (at : ℕ) (bytes : List ℕ) → length (withBytes job at bytes) ≡ length job
+unfolding withBytes
+length-stays job at [] = refl
+length-stays job at (byte ∷ others) = length-stays (set job at byte) (at + 1) others ∙ length-set job at byte
+
+-- the bytes before those that are put stay
+pub before-stays : (job : List ℕ) (at : ℕ) (bytes : List ℕ) (place : ℕ) → place < at → byteAt (withBytes job at bytes) place ≡ byteAt job place
+unfolding withBytes
+before-stays job at [] place h = refl
+before-stays job at (byte ∷ others) place h =
+    before-stays (set job at byte) (at + 1) others place (omega arith) ∙ getD-set-other job at place byte 0 (λ e. omega arith)
+
+-- and the bytes after them
+pub after-stays : (job : List ℕ) (at : ℕ) (bytes : List ℕ) (place : ℕ) → at + length bytes ≤ place
+    → byteAt (withBytes job at bytes) place ≡ byteAt job place
+unfolding withBytes
+after-stays job at [] place h = refl
+after-stays job at (byte ∷ others) place h =
+    after-stays (set job at byte) (at + 1) others place (omega arith) ∙ getD-set-other job at place byte 0 (λ e. omega arith)
+
+-- each byte that is put stands at its place
+pub put-stands : (job : List ℕ) (at : ℕ) (bytes : List ℕ) (k : ℕ) → k < length bytes → at + length bytes ≤ length job
+    → byteAt (withBytes job at bytes) (at + k) ≡ getD bytes k 0
+unfolding withBytes
+put-stands job at [] k h room = absurd (not-suc-le-zero h)
+put-stands job at (byte ∷ others) zero h room =
+    rw add-zero (before-stays (set job at byte) (at + 1) others at (omega arith) ∙ getD-set-same job at byte 0 (omega arith))
+put-stands job at (byte ∷ others) (suc k) h room =
+    let next : at + suc k ≡ at + 1 + k = omega arith in
+    rw next (put-stands (set job at byte) (at + 1) others k (le-of-suc-le-suc h) (omega (arith, length-set job at byte)))

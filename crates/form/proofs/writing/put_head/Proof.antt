@@ -1,0 +1,29 @@
+-- `form::writing::put_head` meets its contract: one byte after the other.
+-- Assumes nothing.
+use borrow.Author.Needs.{needs}
+use Rattle.form.specs.Writing.{withBytes}
+use Rattle.form.proofs.writing.put_head.Statement.{statement}
+use Rattle.form.proofs.writing.put_head.Tie as tie
+
+returns : tie.Need-returns
+unfolding withBytes
+returns c =
+    rw (
+      c .before .before .put-two2 .ensures,
+      c .before .before .before .before .before .before .put-two .ensures,
+      c .before .before .before .before .before .before .before .before .before .before .put3 .ensures,
+      c .before .before .before .before .before .before .before .before .before .before .before .before .before .before .put2 .ensures,
+      c .before .before .before .before .before .before .before .before .before .before .before .before .before .before .before .before .before .before .put .ensures,
+    )
+
+pub put-head-spec : {M : Type 1} → statement M
+put-head-spec =
+    tie.close
+    (tie.spec
+    (λ c κs. search needs)
+    (λ c κs. search needs)
+    (λ c κs. search needs)
+    (λ c κs. search needs)
+    (λ c κs. search needs)
+    (λ c. search needs)
+    returns)

@@ -1,0 +1,20 @@
+-- `form::writing::put_two` meets its contract: one byte after the other.
+-- Assumes nothing.
+use borrow.Author.Needs.{needs}
+use Rattle.form.specs.Writing.{withBytes}
+use Rattle.form.proofs.writing.put_two.Statement.{statement}
+use Rattle.form.proofs.writing.put_two.Tie as tie
+
+returns : tie.Need-returns
+unfolding withBytes
+returns c = rw (c .before .before .put2 .ensures, c .before .before .before .before .before .before .put .ensures)
+
+pub put-two-spec : {M : Type 1} → statement M
+put-two-spec =
+    tie.close
+    (tie.spec
+    (λ c κs. search needs)
+    (λ c. search needs)
+    (λ c κs. search needs)
+    (λ c. search needs)
+    returns)
