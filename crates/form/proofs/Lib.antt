@@ -1,3 +1,5 @@
 pub mod Faulty
 pub mod Putting
+pub mod ReadBack
 pub mod Upward
+pub mod WholeJob

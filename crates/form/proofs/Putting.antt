@@ -5,7 +5,7 @@ use mathlib.Core.List.{List, [], _∷_, _++_}
 use Prim.Native.Nat.{ℕ, zero, suc, _+_, _%_, _≤_, _<_}
 use native.Mathlib.Nat.{add-zero, not-suc-le-zero, le-of-suc-le-suc}
 use native.Mathlib.Omega.{arith}
-use lib.ListN.{length, getD, set, length-set}
+use lib.ListN.{length, getD, take, set, length-set}
 use lib.Seq.{getD-set-same, getD-set-other}
 use Rattle.form.specs.Entries.{byteAt}
 use Rattle.form.specs.Writing.{twoBytes, threeBytes, entryBytes, withBytes}
@@ -52,12 +52,27 @@ after-stays job at (byte ∷ others) place h =
     after-stays (set job at byte) (at + 1) others place (omega arith) ∙ getD-set-other job at place byte 0 (λ e. omega arith)
 
 -- each byte that is put stands at its place
-pub put-stands : (job : List ℕ) (at : ℕ) (bytes : List ℕ) (k : ℕ) → k < length bytes → at + length bytes ≤ length job
-    → byteAt (withBytes job at bytes) (at + k) ≡ getD bytes k 0
+pub put-stands : (job : List ℕ) (at : ℕ) (bytes : List ℕ) (k : ℕ) (place : ℕ) → place ≡ at + k → k < length bytes → at + length bytes ≤ length job
+    → byteAt (withBytes job at bytes) place ≡ getD bytes k 0
 unfolding withBytes
-put-stands job at [] k h room = absurd (not-suc-le-zero h)
-put-stands job at (byte ∷ others) zero h room =
-    rw add-zero (before-stays (set job at byte) (at + 1) others at (omega arith) ∙ getD-set-same job at byte 0 (omega arith))
-put-stands job at (byte ∷ others) (suc k) h room =
-    let next : at + suc k ≡ at + 1 + k = omega arith in
-    rw next (put-stands (set job at byte) (at + 1) others k (le-of-suc-le-suc h) (omega (arith, length-set job at byte)))
+put-stands job at [] k place e h room = absurd (not-suc-le-zero h)
+put-stands job at (byte ∷ others) zero place e h room =
+    let first : place ≡ at = omega arith in
+    rw first (before-stays (set job at byte) (at + 1) others at (omega arith) ∙ getD-set-same job at byte 0 (omega arith))
+put-stands job at (byte ∷ others) (suc k) place e h room =
+    put-stands (set job at byte) (at + 1) others k place (omega arith) (le-of-suc-le-suc h) (omega (arith, length-set job at byte))
+
+-- ---- the front of a slice
+
+set-front : (n : ℕ) (job : List ℕ) (at byte : ℕ) → take n (set job at byte) ≡ set (take n job) at byte
+set-front zero job at byte = refl
+set-front (suc n) [] at byte = refl
+set-front (suc n) (first ∷ job) zero byte = refl
+set-front (suc n) (first ∷ job) (suc at) byte = ap (λ (l : List ℕ). first ∷ l) (set-front n job at byte)
+
+-- in the front of a longer slice bytes are put as into a job of that length
+pub bytes-front : (n : ℕ) (job : List ℕ) (at : ℕ) (bytes : List ℕ) → take n (withBytes job at bytes) ≡ withBytes (take n job) at bytes
+unfolding withBytes
+bytes-front n job at [] = refl
+bytes-front n job at (byte ∷ others) =
+    bytes-front n (set job at byte) (at + 1) others ∙ ap (λ (front : List ℕ). withBytes front (at + 1) others) (set-front n job at byte)

@@ -1,7 +1,7 @@
 -- Entries to job bytes: a head or an entry put into a job (document 01, "Jobs").
 use Prim.Native.Nat.{ℕ, _+_, _*_, _/_, _%_}
 use mathlib.Core.List.{List, [], _∷_, _++_}
-use lib.ListN.{set}
+use lib.ListN.{length, set}
 use Rattle.form.specs.declared.entries.Entry.{Entry}
 
 -- numbers of 16 and of 24 bits have their low byte first
@@ -31,3 +31,12 @@ withHead job version count = withBytes job 0 (headBytes version count)
 -- a job with another i-th entry
 abbrev pub withEntry : List ℕ → ℕ → Entry → List ℕ
 withEntry job i entry = withBytes job (7 + 6 * i) (entryBytes entry)
+
+-- a job with other entries, one after the other from an index on
+unfoldable pub withEntries : List ℕ → ℕ → List Entry → List ℕ
+withEntries job i [] = job
+withEntries job i (entry ∷ others) = withEntries (withEntry job i entry) (i + 1) others
+
+-- a job with a head of so many entries, and those entries
+abbrev pub withJob : List ℕ → ℕ → List Entry → List ℕ
+withJob job version entries = withEntries (withHead job version (length entries)) 0 entries
