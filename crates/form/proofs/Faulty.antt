@@ -1,9 +1,10 @@
 -- Faults: a fault goes before the next, and each fault has its number.
 -- Assumes nothing.
-use mathlib.Core.Path.{_≡_, refl, ap, _∙_}
+use mathlib.Core.Path.{_≡_, refl, sym, ap, _∙_}
 use mathlib.Core.Bool.{Bool, true, false, not, _&&_}
 use mathlib.Core.List.{List}
-use Prim.Native.Nat.{ℕ, _+_, _-_, _≤_, _<_}
+use mathlib.Core.Logic.{_⊎_, inl, inr, ⊎-elim}
+use Prim.Native.Nat.{ℕ, suc, _+_, _-_, _≤_, _<_}
 use native.Mathlib.Omega.{arith}
 use borrow.Author.Tests.{eq-eqb, ne-eqb, eqb-false, leb-false, ltb-false}
 use lib.Dec.{eqb, leb, ltb}
@@ -80,31 +81,33 @@ order-kept i least e none = go (leb 0xf40 (e .row)) (ltb (e .row) least) refl re
 
 -- ---- no fault
 
+-- a fault is none, or is 10, or is 11: no other lemma goes by the cases of `Fault`
+pub one-of : (fault : Fault) → (fault ≡ Sound) ⊎ ((faultNumber fault ≡ 10) ⊎ (faultNumber fault ≡ 11))
+one-of Sound = inl refl
+one-of Short = inr (inl refl)
+one-of Mark = inr (inl refl)
+one-of Version = inr (inl refl)
+one-of Count = inr (inl refl)
+one-of Length = inr (inl refl)
+one-of (Kind i) = inr (inl refl)
+one-of (Value i) = inr (inl refl)
+one-of (High i) = inr (inr refl)
+one-of (Order i) = inr (inr refl)
+
 -- neither number: no fault
 pub no-fault : (fault : Fault) → eqb (faultNumber fault) 10 ≡ false → eqb (faultNumber fault) 11 ≡ false → fault ≡ Sound
-no-fault Sound ten eleven = refl
-no-fault Short ten eleven = absurd (eqb-false 10 10 ten refl)
-no-fault Mark ten eleven = absurd (eqb-false 10 10 ten refl)
-no-fault Version ten eleven = absurd (eqb-false 10 10 ten refl)
-no-fault Count ten eleven = absurd (eqb-false 10 10 ten refl)
-no-fault Length ten eleven = absurd (eqb-false 10 10 ten refl)
-no-fault (Kind i) ten eleven = absurd (eqb-false 10 10 ten refl)
-no-fault (Value i) ten eleven = absurd (eqb-false 10 10 ten refl)
-no-fault (High i) ten eleven = absurd (eqb-false 11 11 eleven refl)
-no-fault (Order i) ten eleven = absurd (eqb-false 11 11 eleven refl)
+no-fault fault not-ten not-eleven =
+    ⊎-elim (λ sound. sound) (⊎-elim (λ ten. absurd (eqb-false _ 10 not-ten ten)) (λ eleven. absurd (eqb-false _ 11 not-eleven eleven))) (one-of fault)
 
 -- none in both: none in either
 pub both-sound : (fault next : Fault) → (fault otherwise next) ≡ Sound → (fault ≡ Sound) × (next ≡ Sound)
-both-sound Sound next e = (refl, e)
-both-sound Short next e = absurd (never-zero 9 (ap faultNumber e))
-both-sound Mark next e = absurd (never-zero 9 (ap faultNumber e))
-both-sound Version next e = absurd (never-zero 9 (ap faultNumber e))
-both-sound Count next e = absurd (never-zero 9 (ap faultNumber e))
-both-sound Length next e = absurd (never-zero 9 (ap faultNumber e))
-both-sound (Kind i) next e = absurd (never-zero 9 (ap faultNumber e))
-both-sound (Value i) next e = absurd (never-zero 9 (ap faultNumber e))
-both-sound (High i) next e = absurd (never-zero 10 (ap faultNumber e))
-both-sound (Order i) next e = absurd (never-zero 10 (ap faultNumber e))
+both-sound fault next e =
+    ⊎-elim (λ sound. (sound, sym (fault-next fault next (ap faultNumber sound)) ∙ e)) (⊎-elim (some 9) (some 10)) (one-of fault)
+  where
+    some : (n : ℕ) → faultNumber fault ≡ suc n → (fault ≡ Sound) × (next ≡ Sound)
+    some n is =
+        let stops = fault-stops fault next (λ none. never-zero n (sym is ∙ none)) in
+        absurd (never-zero n (sym is ∙ ap faultNumber (sym stops ∙ e)))
 
 -- what a sound head has passed
 head-passed : (t : Bool) (fault next : Fault) → (faultNumber fault ≡ 0 → ⊥) → (if t then fault else next) ≡ Sound → (t ≡ false) × (next ≡ Sound)

@@ -1,8 +1,9 @@
 -- Judging in order: a fault, or an entry that is refused, answers for the whole, and any other hands on to what is left.
 -- Assumes nothing.
-use mathlib.Core.Path.{_≡_, refl}
+use mathlib.Core.Path.{_≡_, refl, ap}
 use mathlib.Core.Bool.{Bool, true, false, not}
 use mathlib.Core.List.{List, [], _∷_, _++_}
+use mathlib.Core.Logic.{⊎-elim}
 use Prim.Native.Nat.{ℕ, _+_, _-_, _<_}
 use native.Mathlib.Omega.{arith}
 use lib.Dec.{eqb}
@@ -14,8 +15,8 @@ use Rattle.form.specs.Entries.{entryAt, entriesFrom}
 use Rattle.form.specs.Faults.{faultNumber}
 use Rattle.form.specs.declared.entries.Entry.{Entry}
 use Rattle.form.specs.declared.faults.Fault.{Fault}
-use Rattle.form.specs.declared.faults.Fault.the-variants.{Sound, Short, Mark, Version, Count, Length, Kind, Value, High, Order}
 use Rattle.job.specs.Verdicts.{unfit, entryRungs, allRungs, verdict}
+use Rattle.form.proofs.Faulty.{one-of}
 use Rattle.form.proofs.Upward.{next-left}
 
 -- ---- the two rungs of a fault, and then the rest
@@ -25,28 +26,11 @@ module _ (rest : List Rung) where
   by-fault fault = 10 when eqb (faultNumber fault) 10 ∷ 11 when eqb (faultNumber fault) 11 ∷ rest
 
   pub rungs-stop : (fault : Fault) → (faultNumber fault ≡ 0 → ⊥) → verdict (by-fault fault) ≡ record { number = faultNumber fault; place = 0 }
-  rungs-stop Sound some = absurd (some refl)
-  rungs-stop Short some = refl
-  rungs-stop Mark some = refl
-  rungs-stop Version some = refl
-  rungs-stop Count some = refl
-  rungs-stop Length some = refl
-  rungs-stop (Kind i) some = refl
-  rungs-stop (Value i) some = refl
-  rungs-stop (High i) some = refl
-  rungs-stop (Order i) some = refl
+  rungs-stop fault some =
+      ⊎-elim (λ sound. absurd (some (ap faultNumber sound))) (⊎-elim (λ ten. rw ten) (λ eleven. rw eleven)) (one-of fault)
 
   pub rungs-next : (fault : Fault) → faultNumber fault ≡ 0 → verdict (by-fault fault) ≡ verdict rest
-  rungs-next Sound none = refl
-  rungs-next Short none = absurd (omega arith)
-  rungs-next Mark none = absurd (omega arith)
-  rungs-next Version none = absurd (omega arith)
-  rungs-next Count none = absurd (omega arith)
-  rungs-next Length none = absurd (omega arith)
-  rungs-next (Kind i) none = absurd (omega arith)
-  rungs-next (Value i) none = absurd (omega arith)
-  rungs-next (High i) none = absurd (omega arith)
-  rungs-next (Order i) none = absurd (omega arith)
+  rungs-next fault none = rw none
 
 -- ---- the three rungs of an entry, and then the rest
 
