@@ -9,7 +9,7 @@ abbrev pub twoBytes : ℕ → List ℕ
 twoBytes number = number % 256 ∷ number / 256 % 256 ∷ []
 
 abbrev pub threeBytes : ℕ → List ℕ
-threeBytes number = number % 256 ∷ twoBytes (number / 256)
+threeBytes number = number % 256 ∷ number / 256 % 256 ∷ number / 65536 % 256 ∷ []
 
 -- three bytes 4F 54 4A, a 16-bit version, a 16-bit count
 abbrev pub headBytes : ℕ → ℕ → List ℕ

@@ -30,8 +30,8 @@ fn put_three(job: &mut [u8], at: usize, number: u32)
     requires { ⌜ at + 3 < 2 ^ 40 ⌝ }
     ensures { λ _. ⌜ now (job .exit) ≡ spec.withBytes (now (job .entry)) at (spec.threeBytes number) ⌝ }
 {
-    put(job, at, number);
-    put_two(job, at + 1, number / 256);
+    put_two(job, at, number);
+    put(job, at + 2, number / 65536);
 }
 
 // Puts the mark, the version and the count of a job.
