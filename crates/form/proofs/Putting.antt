@@ -2,13 +2,13 @@
 -- Assumes nothing.
 use mathlib.Core.Path.{_≡_, refl, ap, _∙_}
 use mathlib.Core.List.{List, [], _∷_, _++_}
-use Prim.Native.Nat.{ℕ, zero, suc, _+_, _%_, _≤_, _<_}
+use Prim.Native.Nat.{ℕ, zero, suc, _+_, _*_, _/_, _%_, _≤_, _<_}
 use native.Mathlib.Nat.{add-zero, not-suc-le-zero, le-of-suc-le-suc}
 use native.Mathlib.Omega.{arith}
 use lib.ListN.{length, getD, take, set, length-set}
 use lib.Seq.{getD-set-same, getD-set-other}
 use Rattle.form.specs.Entries.{byteAt}
-use Rattle.form.specs.Writing.{twoBytes, threeBytes, entryBytes, withBytes}
+use Rattle.form.specs.Writing.{twoBytes, threeBytes, withBytes, withHead, withEntry}
 use Rattle.form.specs.declared.entries.Entry.{Entry}
 
 -- some bytes, and then others
@@ -20,15 +20,34 @@ then-bytes job at (byte ∷ first) others =
     let more : at + 1 + length first ≡ at + suc (length first) = omega arith in
     then-bytes (set job at byte) (at + 1) first others ∙ ap (λ (n : ℕ). withBytes (withBytes (set job at byte) (at + 1) first) n others) more
 
--- an entry's parts, one after the other
-pub entry-parts : (job : List ℕ) (at : ℕ) (entry : Entry)
-    → withBytes job at (entryBytes entry)
-    ≡ withBytes (set (withBytes job at (twoBytes (entry .row))) (at + 2) (entry .kind % 256)) (at + 3) (threeBytes (entry .value))
-unfolding withBytes
-entry-parts job at entry =
-    let third : at + 2 + 1 ≡ at + 3 = omega arith in
-    then-bytes job at (twoBytes (entry .row)) (entry .kind % 256 ∷ threeBytes (entry .value))
-    ∙ ap (λ (n : ℕ). withBytes (set (withBytes job at (twoBytes (entry .row))) (at + 2) (entry .kind % 256)) n (threeBytes (entry .value))) third
+-- ---- numbers, a head and an entry: part after part, as the code puts them
+
+module _ (job : List ℕ) where
+  pub two-parts : (at number : ℕ) → withBytes job at (twoBytes number) ≡ set (set job at (number % 256)) (at + 1) (number / 256 % 256)
+  unfolding withBytes
+  two-parts at number = refl
+
+  pub three-parts : (at number : ℕ) → withBytes job at (threeBytes number) ≡ set (withBytes job at (twoBytes number)) (at + 2) (number / 65536 % 256)
+  unfolding withBytes
+  three-parts at number = then-bytes job at (twoBytes number) (number / 65536 % 256 ∷ [])
+
+  pub head-parts : (version count : ℕ)
+      → withHead job version count
+      ≡ withBytes (withBytes (set (set (set job 0 0x4f) 1 0x54) 2 0x4a) 3 (twoBytes version)) 5 (twoBytes count)
+  unfolding withBytes
+  head-parts version count = refl
+
+  pub entry-parts : (i : ℕ) (entry : Entry)
+      → withEntry job i entry
+      ≡ withBytes (set (withBytes job (7 + 6 * i) (twoBytes (entry .row))) (7 + 6 * i + 2) (entry .kind % 256)) (7 + 6 * i + 3) (threeBytes (entry .value))
+  unfolding withBytes
+  entry-parts i entry =
+      let at = 7 + 6 * i in
+      let third : at + 2 + 1 ≡ at + 3 = omega arith in
+      then-bytes job at (twoBytes (entry .row)) (entry .kind % 256 ∷ threeBytes (entry .value))
+      ∙ ap (λ (n : ℕ). withBytes (set (withBytes job at (twoBytes (entry .row))) (at + 2) (entry .kind % 256)) n (threeBytes (entry .value))) third
+
+-- ---- what stands at a place, and what stays
 
 -- a job is as long as it was
 pub length-stays : (job : List ℕ) (at : ℕ) (bytes : List ℕ) → length (withBytes job at bytes) ≡ length job

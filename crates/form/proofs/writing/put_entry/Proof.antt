@@ -3,7 +3,6 @@
 use borrow.Author.Needs.{needs}
 use mathlib.Core.Path.{sym}
 use denote.Ref.{now}
-use Prim.Native.Nat.{_+_, _*_}
 use Rattle.form.proofs.Putting.{entry-parts}
 use Rattle.form.proofs.writing.put_entry.Statement.{statement}
 use Rattle.form.proofs.writing.put_entry.Tie as tie
@@ -12,7 +11,7 @@ returns : tie.Need-returns
 returns c =
     let a = c .before .before .before .before .before .before .before .before .before .before .before .before .before .args in
     rw (c .before .before .put-three .ensures, c .before .before .before .before .before .before .put .ensures, c .before .before .before .before .before .before .before .before .before .before .put-two .ensures)
-    (sym (entry-parts (now (a .job)) (7 + 6 * a .i) (a .entry)))
+    (sym (entry-parts (now (a .job)) (a .i) (a .entry)))
 
 pub put-entry-spec : {M : Type 1} → statement M
 put-entry-spec =

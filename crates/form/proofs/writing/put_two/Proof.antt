@@ -1,13 +1,17 @@
 -- `form::writing::put_two` meets its contract: one byte after the other.
 -- Assumes nothing.
 use borrow.Author.Needs.{needs}
-use Rattle.form.specs.Writing.{withBytes}
+use mathlib.Core.Path.{sym}
+use denote.Ref.{now}
+use Rattle.form.proofs.Putting.{two-parts}
 use Rattle.form.proofs.writing.put_two.Statement.{statement}
 use Rattle.form.proofs.writing.put_two.Tie as tie
 
 returns : tie.Need-returns
-unfolding withBytes
-returns c = rw (c .before .before .put2 .ensures, c .before .before .before .before .before .before .put .ensures)
+returns c =
+    let a = c .before .before .before .before .before .before .before .before .before .args in
+    rw (c .before .before .put2 .ensures, c .before .before .before .before .before .before .put .ensures)
+    (sym (two-parts (now (a .job)) (a .at) (a .number)))
 
 pub put-two-spec : {M : Type 1} → statement M
 put-two-spec =
