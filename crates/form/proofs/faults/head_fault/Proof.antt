@@ -61,10 +61,14 @@ returns-4 : tie.Need-returns-4
 returns-4 c = rw (count-left (c .before), lt-ltb 512 _ (c .if4 .taken))
 
 returns-5 : tie.Need-returns-5
-returns-5 c = rw (count-left (c .before .before), le-ltb _ _ (c .before .if4 .left), ne-eqb _ _ (c .if5 .taken))
+returns-5 c =
+    let other : (length (job-of (c .before .before)) ≡ 7 + 6 * c .before .before .count-of .result → ⊥) = c .if5 .taken in
+    rw (count-left (c .before .before), le-ltb _ _ (c .before .if4 .left), ne-eqb _ _ other)
 
 returns-6 : tie.Need-returns-6
-returns-6 c = rw (count-left (c .before .before), le-ltb _ _ (c .before .if4 .left), eq-eqb _ _ (c .if5 .left))
+returns-6 c =
+    let filled : length (job-of (c .before .before)) ≡ 7 + 6 * c .before .before .count-of .result = c .if5 .left in
+    rw (count-left (c .before .before), le-ltb _ _ (c .before .if4 .left), eq-eqb _ _ filled)
 
 pub head-fault-spec : {M : Type 1} → statement M
 head-fault-spec =
