@@ -4,7 +4,7 @@ use mathlib.Core.List.{List, [], _∷_, _++_}
 use lib.ListN.{length, set}
 use Rattle.form.specs.declared.entries.Entry.{Entry}
 
--- numbers of 16 and of 24 bits have their low byte first
+-- numbers of 16 and of 24 bits have their low byte first; what a wider number has above them is left out
 abbrev pub twoBytes : ℕ → List ℕ
 twoBytes number = number % 256 ∷ number / 256 % 256 ∷ []
 
