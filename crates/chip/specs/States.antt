@@ -40,61 +40,35 @@ zeros = record {
   tallies = replicate 64 0;
 }
 
--- the state with other Secure levels
-abbrev pub withSecure : State → List ℕ → State
-withSecure s levels = record {
-  secure = levels;
-  nonsecure = s .nonsecure;
+-- the state with other soft locks, another entered key and other tallies: all that a call other than reset can change
+abbrev pub changed : State → List ℕ → List ℕ → List ℕ → List ℕ → State
+changed s secure nonsecure entered tallies = record {
+  secure = secure;
+  nonsecure = nonsecure;
   bootloader = s .bootloader;
   writekey = s .writekey;
   readkey = s .readkey;
   nokey = s .nokey;
   keys = s .keys;
-  entered = s .entered;
-  tallies = s .tallies;
+  entered = entered;
+  tallies = tallies;
 }
+
+-- the state with other Secure levels
+abbrev pub withSecure : State → List ℕ → State
+withSecure s levels = changed s levels (s .nonsecure) (s .entered) (s .tallies)
 
 -- the state with other Non-secure levels
 abbrev pub withNonsecure : State → List ℕ → State
-withNonsecure s levels = record {
-  secure = s .secure;
-  nonsecure = levels;
-  bootloader = s .bootloader;
-  writekey = s .writekey;
-  readkey = s .readkey;
-  nokey = s .nokey;
-  keys = s .keys;
-  entered = s .entered;
-  tallies = s .tallies;
-}
+withNonsecure s levels = changed s (s .secure) levels (s .entered) (s .tallies)
 
 -- the state with another key entered
 abbrev pub withEntered : State → List ℕ → State
-withEntered s words = record {
-  secure = s .secure;
-  nonsecure = s .nonsecure;
-  bootloader = s .bootloader;
-  writekey = s .writekey;
-  readkey = s .readkey;
-  nokey = s .nokey;
-  keys = s .keys;
-  entered = words;
-  tallies = s .tallies;
-}
+withEntered s words = changed s (s .secure) (s .nonsecure) words (s .tallies)
 
 -- the state with other tallies
 abbrev pub withTallies : State → List ℕ → State
-withTallies s tallies = record {
-  secure = s .secure;
-  nonsecure = s .nonsecure;
-  bootloader = s .bootloader;
-  writekey = s .writekey;
-  readkey = s .readkey;
-  nokey = s .nokey;
-  keys = s .keys;
-  entered = s .entered;
-  tallies = tallies;
-}
+withTallies s tallies = changed s (s .secure) (s .nonsecure) (s .entered) tallies
 
 -- a refusal leaves the state as it was
 abbrev pub refusal : ℕ → State → Outcome

@@ -14,6 +14,7 @@ use Rattle.chip.specs.Keys.{matches, keyLevel, hidden}
 use Rattle.chip.specs.Pages.{isLockRow, owner}
 use Rattle.chip.specs.Permission.{rowKeyLevel, mayRead}
 use Rattle.chip.specs.Slices.{rowAt}
+use Rattle.chip.specs.States.{changed}
 use Rattle.chip.specs.declared.state.State.{State}
 use Rattle.laws.specs.Calls.{Chip}
 use Rattle.plugins.specs.Plugins.{knows, Agree, SameAsBefore}
@@ -32,17 +33,7 @@ pub record KeysStay (before after : State) : Type 0 where
 
 -- the state with other levels and tallies
 abbrev relocked : State → List ℕ → List ℕ → List ℕ → State
-relocked state secure nonsecure tallies = record {
-  secure = secure;
-  nonsecure = nonsecure;
-  bootloader = state .bootloader;
-  writekey = state .writekey;
-  readkey = state .readkey;
-  nokey = state .nokey;
-  keys = state .keys;
-  entered = state .entered;
-  tallies = tallies;
-}
+relocked state secure nonsecure tallies = changed state secure nonsecure (state .entered) tallies
 
 pub keys-stay : (state : State) (secure nonsecure tallies : List ℕ) → KeysStay state (relocked state secure nonsecure tallies)
 keys-stay state secure nonsecure tallies = record { writekey = refl; readkey = refl; nokey = refl; keys = refl; entered = refl }
