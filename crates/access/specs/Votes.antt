@@ -1,9 +1,9 @@
 -- Reading a vote (document 01, "Votes").
-use Prim.Native.Nat.{ℕ, zero, suc, _+_}
+use Prim.Native.Nat.{ℕ, zero, suc, _+_, _-_}
 use mathlib.Core.Bool.{not, _||_}
 use mathlib.Core.List.{List, [], _∷_, _++_}
 use lib.Dec.{eqb, ltb}
-use lib.ListN.{take, drop}
+use lib.ListN.{take, drop, replicate}
 use Rattle.row.specs.Answers.{told, answered}
 use Rattle.row.specs.Rungs.{Rung, _when_, firstOf}
 use Rattle.row.specs.declared.answer.Answer.{Answer}
@@ -31,6 +31,10 @@ readVoteNumber rows state caller row count =
 -- the rows of a group
 abbrev pub group : List ℕ → ℕ → ℕ → List ℕ
 group rows row count = take count (drop row rows)
+
+-- eight rows, of which the first few are judged: those of a group, and zeros behind them
+abbrev pub gathered : List ℕ → ℕ → ℕ → List ℕ
+gathered rows row count = group rows row count ++ replicate (8 - count) 0
 
 unfoldable pub readVote : List ℕ → State → ℕ → ℕ → ℕ → Answer
 readVote rows state caller row count =

@@ -1,7 +1,7 @@
 // Reading a vote (document 01, "Votes").
 ghost use mathlib.Core.Path.{_≡_};
 ghost use Prim.Native.Nat.{_+_, _≤_};
-ghost use lib.ListN.{length, take};
+ghost use lib.ListN.{length};
 ghost use Rattle.row.specs.Rungs.{firstOf};
 ghost use Rattle.access.specs.Votes as spec;
 use crate::judging::row_number;
@@ -57,10 +57,10 @@ fn read_vote_number(rows: &[u32], state: State, caller: u32, row: u32, count: u3
     group_number(rows, state, caller, row, count)
 }
 
-// The rows of a group, gathered.
+// The rows of a group, gathered, with zeros behind them.
 fn gathered(rows: &[u32], row: u32, count: u32) -> Gathered
     requires { ⌜ (row + count ≤ length (now rows)) × (count ≤ 8) ⌝ }
-    ensures { λ r. ⌜ take count r ≡ spec.group (now (rows .entry)) row count ⌝ }
+    ensures { λ r. ⌜ r ≡ spec.gathered (now (rows .entry)) row count ⌝ }
 {
     let first = row as usize;
     let n = count as usize;

@@ -1,18 +1,19 @@
--- `access::votes::gathered` meets its contract. The invariant: the rows so far are those of the group.
+-- `access::votes::gathered` meets its contract. The invariant: the rows so far are those of the group, and the others are 0.
 -- Assumes nothing.
 use borrow.Author.Needs.{needs}
 use denote.Ref.{now}
 use mathlib.Core.Path.{_≡_, refl}
 use Prim.Native.Nat.{_-_, _≤_}
 use native.Mathlib.Omega.{arith}
-use lib.ListN.{length, take, drop, length-set}
+use lib.ListN.{length, length-set}
+use Rattle.access.specs.Votes.{gathered}
 use Rattle.access.proofs.Upward.{gather-next}
 use Rattle.access.proofs.votes.gathered.Statement.{statement}
 use Rattle.access.proofs.votes.gathered.Tie as tie
 
 abbrev Inv-loop : tie.InvT-loop
 Inv-loop rows row count first n group₀ i₀ group i =
-    (i ≤ n) × (length group ≡ 8) × (take i group ≡ take i (drop row rows))
+    (i ≤ n) × (length group ≡ 8) × (group ≡ gathered rows row i)
 
 abbrev μ-loop : tie.MeasureT-loop
 μ-loop rows row count first n group₀ i₀ group i = n - i
