@@ -5,6 +5,7 @@ use lib.Dec.{eqb}
 use lib.ListN.{set}
 use Rattle.row.specs.Answers.{refusedAt, spent}
 use Rattle.row.specs.Choice.{if_then_else_}
+use Rattle.row.specs.declared.answer.Answer.{Answer}
 use Rattle.row.specs.declared.writing.Written.{Written}
 use Rattle.chip.specs.States.{withTallies}
 use Rattle.chip.specs.Tallies.{Gain, _gains_, withGains}
@@ -16,10 +17,14 @@ pub record Left : Type 0 where
   pub outcome : Outcome
   pub rows : List ℕ
 
--- done: these rows, with a place and pulses; nothing latched changes but the tallies, by the bits that each row gained
+-- the state beside an answer: nothing latched changes but the tallies
+abbrev pub beside : Answer → State → List ℕ → Outcome
+beside answer state tallies = record { answer = answer; state = withTallies state tallies }
+
+-- done: these rows, with a place and pulses, and the tallies with the bits that each row gained
 abbrev pub burnt : State → List Gain → List ℕ → ℕ → ℕ → Left
 burnt state gained rows place pulses = record {
-  outcome = record { answer = spent place pulses; state = withTallies state (withGains (state .tallies) gained) };
+  outcome = beside (spent place pulses) state (withGains (state .tallies) gained);
   rows = rows;
 }
 

@@ -2,10 +2,11 @@
 ghost use mathlib.Core.Path.{_≡_};
 ghost use Rattle.row.specs.Rungs.{firstOf};
 ghost use Rattle.access.specs.Judging as spec;
-use crate::rows::row_at;
 use chip::callers::LAST_CALLER;
 use chip::keys::hidden;
 use chip::pages::Page;
+use chip::slices::MOST_HELD;
+use chip::slices::row_at;
 use chip::state::State;
 
 // The number of a row that may or may not be used: 6, 7, 3, or 0.
@@ -19,7 +20,7 @@ pub fn row_number(rows: &[u32], state: State, may: bool, row: u32) -> u32
     if !may {
         return 7;
     }
-    if 16777215 < held {
+    if MOST_HELD < held {
         return 3;
     }
     0

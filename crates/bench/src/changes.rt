@@ -1,6 +1,6 @@
 // What a rehearsal did: a line for each entry, with the old and the new bits of its row.
 use crate::print;
-use access::rows::row_at;
+use chip::slices::row_at;
 use form::entries::Entry;
 use form::entries::count_of;
 use form::entries::entry_at;

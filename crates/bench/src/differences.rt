@@ -1,7 +1,7 @@
 // Where two images differ: a line for each such row, and a last one that counts them.
 use crate::ecc;
 use crate::print;
-use access::rows::row_at;
+use chip::slices::row_at;
 use row::coding::flipped;
 use row::writing::pulses;
 use screen::tally::one_more;

@@ -4,10 +4,10 @@ use crate::owner::allowed;
 use crate::print;
 use crate::range::Range;
 use crate::row_names;
-use access::rows::row_at;
 use chip::callers::BOOTLOADER;
 use chip::callers::NONSECURE;
 use chip::callers::SECURE;
+use chip::slices::row_at;
 use chip::state::State;
 use screen::tally::one_more;
 

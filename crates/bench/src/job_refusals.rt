@@ -3,7 +3,7 @@ use crate::levels;
 use crate::print;
 use crate::refusals::number_and_words;
 use crate::refusals::of_row;
-use access::rows::row_at;
+use chip::slices::row_at;
 use chip::state::State;
 use form::entries::Entry;
 use form::entries::entry_at;

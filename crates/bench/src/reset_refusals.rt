@@ -1,7 +1,7 @@
 // A refused reset: the row whose entry is too large, and what that says of the image (document 01, "Locks").
 use crate::print;
 use crate::refusals::of_row;
-use access::rows::row_at;
+use chip::slices::row_at;
 use latch::resetting::all_in_range;
 
 // Whether one row is as the reset asks of all.

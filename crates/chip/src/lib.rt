@@ -1,7 +1,8 @@
-// The chip: its pages, the callers, the latched state, keys, permission and tallies (document 01, "Locks", "Keys", "Permission").
+// The chip: its pages, the callers, the lent rows, the latched state, keys, permission and tallies (document 01, "Locks", "Keys", "Permission").
 pub mod callers;
 pub mod keys;
 pub mod pages;
 pub mod permission;
+pub mod slices;
 pub mod state;
 pub mod tallies;

@@ -5,8 +5,8 @@ ghost use Rattle.chip.specs.Tallies.{withGains};
 ghost use Rattle.form.specs.Entries.{entriesFrom};
 ghost use Rattle.job.specs.Burning as spec;
 use crate::verdicts::entry_written;
-use access::rows::put;
-use access::rows::row_at;
+use access::burning::burn_row;
+use chip::slices::row_at;
 use chip::tallies::gain;
 use form::entries::entry_at;
 use row::upward::burnt_upward;
@@ -17,18 +17,15 @@ pub struct Reached {
     pub place: u32,
 }
 
-// Counts where the pulses end: the row of the entry at `first` gains the last bits. Those after it, up to `count`, gain none, and their
-// pages are named all the same.
-fn cut_gained(tallies: &mut [u16], job: &[u8], first: u32, count: u32, bits: u32)
+// Names the pages of the entries from `first` up to `count`, whose rows gain no bit: those after the one in which the pulses end.
+fn name_rest(tallies: &mut [u16], job: &[u8], first: u32, count: u32)
     ensures { λ _. ⌜
-        now (tallies .exit) ≡ withGains (now (tallies .entry)) (spec.cutGained bits (entriesFrom (now (job .entry)) first (count - first)))
+        now (tallies .exit) ≡ withGains (now (tallies .entry)) (spec.cutGained 0 (entriesFrom (now (job .entry)) first (count - first)))
         ⌝ }
 {
-    let mut gained = bits;
     let mut i = first;
     while i < count {
-        gain(tallies, entry_at(job, i).row, gained);
-        gained = 0;
+        gain(tallies, entry_at(job, i).row, 0);
         i += 1;
     }
 }
@@ -56,15 +53,15 @@ pub fn rehearsed(
         let written = entry_written(old, entry);
         let pulses = written.pulses;
         if unspent < pulses {
-            put(rows, row, burnt_upward(unspent, old, written.row));
-            cut_gained(tallies, job, i, count, unspent);
+            let cut = burnt_upward(unspent, old, written.row);
+            burn_row(rows, tallies, row, cut, unspent);
+            name_rest(tallies, job, i + 1, count);
             return Reached {
                 pulses: limit,
                 place: i,
             };
         }
-        put(rows, row, written.row);
-        gain(tallies, row, pulses);
+        burn_row(rows, tallies, row, written.row, pulses);
         unspent -= pulses;
         i += 1;
     }

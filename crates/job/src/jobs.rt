@@ -3,6 +3,7 @@ ghost use mathlib.Core.Path.{_≡_};
 ghost use Rattle.job.specs.Jobs as spec;
 use crate::burning::rehearsed;
 use crate::verdicts::verdict_of;
+use access::burning::beside;
 use chip::state::Outcome;
 use chip::state::State;
 use form::entries::count_of;
@@ -29,12 +30,7 @@ pub fn rehearse(rows: &mut [u32], state: State, job: &[u8], limit: u32) -> Outco
     let mut tallies = state.tallies;
     let reached = rehearsed(rows, &mut tallies, job, count_of(job), limit);
     let answer = spent(reached.place, reached.pulses);
-    let mut next = state;
-    next.tallies = tallies;
-    Outcome {
-        answer,
-        state: next,
-    }
+    beside(answer, state, tallies)
 }
 
 // Judges a job and burns it.

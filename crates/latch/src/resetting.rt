@@ -11,6 +11,7 @@ ghost use Rattle.latch.specs.Resetting as spec;
 use crate::locks::level_of;
 use crate::locks::voted_byte;
 use chip::pages::Page;
+use chip::slices::MOST_HELD;
 use chip::state::Flags;
 use chip::state::Indexes;
 use chip::state::Key;
@@ -29,7 +30,7 @@ pub fn all_in_range(rows: &[u32]) -> bool
 {
     let mut i = 0;
     while i < rows.len() {
-        if 16777215 < rows[i] {
+        if MOST_HELD < rows[i] {
             return false;
         }
         i += 1;

@@ -25,17 +25,20 @@ use Rattle.access.proofs.writes.write_ecc.Tie as tie
 returns : tie.Need-returns
 unfolding writeEcc callRungs rowRungs refusing
 returns c =
-    let s = c .before .before .before .before .before .before .before .before .before .before .before .before .args in
+    let s = c .before .before .before .before .before .before .before .before .before .before .before .before .before .before .before .args in
     let rows = now (s .rows) in
-    let burnt = c .before .before .before .burn .ensures in
+    let judged = c .before .before .before .before .before .before .before .before .before .before .before .call-number in
+    let held = c .before .before .before .before .before .before .before .before .before .row-at .ensures in
+    let written = c .before .before .before .before .before .before .before .before .write-ecc in
+    let may = c .before .before .before .before .before .before .before .before .before .before .before .before .before .may-write .ensures in
     let rungs = callRungs rows (s .state) (s .caller) (s .row) ecc (ltb 65535 (s .value)) (mayWrite (s .state) (s .caller) (s .row)) in
-    let number : c .before .before .before .before .before .before .before .before .call-number .result ≡ firstOf rungs =
-    c .before .before .before .before .before .before .before .before .call-number .ensures ∙ ap (λ (may : Bool). firstOf (callRungs rows (s .state) (s .caller) (s .row) ecc (ltb 65535 (s .value)) may)) (c .before .before .before .before .before .before .before .before .before .before .may-write .ensures) in
-    leaves rows _ _ (s .state) (s .row) (c .before .before .before .before .before .before .before .before .call-number .result) _ (c .before .before .before .before .before .write-ecc .result) (eccWritten (rowAt rows (s .row)) (s .value)) _ (burnt .0) (burnt .1) (c .beside .ensures)
+    let number : judged .result ≡ firstOf rungs =
+    judged .ensures ∙ ap (λ (may : Bool). firstOf (callRungs rows (s .state) (s .caller) (s .row) ecc (ltb 65535 (s .value)) may)) may in
+    leaves rows _ _ _ (s .state) (s .row) (judged .result) _ (written .result) (eccWritten (rowAt rows (s .row)) (s .value)) _ (c .before .before .before .before .burn .ensures) (c .beside .ensures)
     (λ none.
     let low : s .value ≤ 65535 = ltb-false 65535 (s .value)
     (call-passed rows (s .state) (s .caller) (s .row) ecc (ltb 65535 (s .value)) (mayWrite (s .state) (s .caller) (s .row)) (sym number ∙ none) .1) in
-    c .before .before .before .before .before .write-ecc .ensures ∙ ap₂ eccWritten (c .before .before .before .before .before .before .row-at .ensures) (mod-eq-of-lt (omega arith)))
+    written .ensures ∙ ap₂ eccWritten held (mod-eq-of-lt (omega arith)))
     (ap₂ orElse number (nine (rowAt rows (s .row)) (s .value))
     ∙ sym (then-rungs rungs (9 when neitherFits (rowAt rows (s .row)) (s .value) ∷ []) tt))
 
@@ -48,6 +51,7 @@ write-ecc-spec =
     (λ c κs. search needs)
     (λ c. search needs)
     (λ c κs. search needs)
+    (λ c. search needs)
     (λ c κs. search needs)
     (λ c κs. search needs)
     (λ c. search needs)

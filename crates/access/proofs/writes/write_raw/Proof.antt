@@ -19,13 +19,16 @@ use Rattle.access.proofs.writes.write_raw.Tie as tie
 returns : tie.Need-returns
 unfolding writeRaw
 returns c =
-    let s = c .before .before .before .before .before .before .before .before .before .before .before .before .args in
+    let s = c .before .before .before .before .before .before .before .before .before .before .before .before .before .before .before .args in
     let rows = now (s .rows) in
-    let burnt = c .before .before .before .burn .ensures in
-    leaves rows _ _ (s .state) (s .row) (c .before .before .before .before .before .before .before .before .call-number .result) (writeRawNumber rows (s .state) (s .caller) (s .row) (s .value)) (c .before .before .before .before .before .write-raw .result) (rawWritten (rowAt rows (s .row)) (s .value)) _ (burnt .0) (burnt .1) (c .beside .ensures)
-    (λ none. c .before .before .before .before .before .write-raw .ensures ∙ ap (λ (old : ℕ). rawWritten old (s .value)) (c .before .before .before .before .before .before .row-at .ensures))
-    (or-nothing (c .before .before .before .before .before .before .before .before .call-number .result) ∙ c .before .before .before .before .before .before .before .before .call-number .ensures
-    ∙ ap (λ (may : Bool). firstOf (callRungs rows (s .state) (s .caller) (s .row) raw (ltb 16777215 (s .value)) may)) (c .before .before .before .before .before .before .before .before .before .before .may-write .ensures))
+    let judged = c .before .before .before .before .before .before .before .before .before .before .before .call-number in
+    let held = c .before .before .before .before .before .before .before .before .before .row-at .ensures in
+    let written = c .before .before .before .before .before .before .before .before .write-raw in
+    let may = c .before .before .before .before .before .before .before .before .before .before .before .before .before .may-write .ensures in
+    leaves rows _ _ _ (s .state) (s .row) (judged .result) (writeRawNumber rows (s .state) (s .caller) (s .row) (s .value)) (written .result) (rawWritten (rowAt rows (s .row)) (s .value)) _ (c .before .before .before .before .burn .ensures) (c .beside .ensures)
+    (λ none. written .ensures ∙ ap (λ (old : ℕ). rawWritten old (s .value)) held)
+    (or-nothing (judged .result) ∙ judged .ensures
+    ∙ ap (λ (may : Bool). firstOf (callRungs rows (s .state) (s .caller) (s .row) raw (ltb 16777215 (s .value)) may)) may)
 
 pub write-raw-spec : {M : Type 1} → statement M
 write-raw-spec =
@@ -35,6 +38,7 @@ write-raw-spec =
     (λ c κs. search needs)
     (λ c κs. search needs)
     (λ c κs. search needs)
+    (λ c. search needs)
     (λ c κs. search needs)
     (λ c κs. search needs)
     (λ c. search needs)

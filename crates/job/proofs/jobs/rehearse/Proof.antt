@@ -1,6 +1,7 @@
 -- `job::jobs::rehearse` meets its contract: a number that is not 0 is a refusal, and 0 leaves what the rehearsal reached.
 -- Assumes nothing.
 use borrow.Author.Needs.{needs}
+use mathlib.Core.Path.{_∙_}
 use borrow.Author.Tests.{eq-eqb, ne-eqb}
 use Rattle.job.specs.Jobs.{rehearse}
 use Rattle.job.proofs.jobs.rehearse.Statement.{statement}
@@ -16,10 +17,11 @@ returns c = (
 returns-2 : tie.Need-returns-2
 unfolding rehearse
 returns-2 c =
-    let accepted = eq-eqb _ _ (c .before .before .before .before .before .before .before .before .before .if1 .left) in
-    let reached = c .before .before .before .before .rehearsed .ensures in (
-      rw (← c .before .before .before .before .before .before .before .before .before .before .verdict-of .ensures, accepted, ← c .before .before .before .before .before .count-of .ensures .0) (simp (c .spent .ensures, reached .1, reached .2, reached .3)),
-      rw (← c .before .before .before .before .before .before .before .before .before .before .verdict-of .ensures, accepted, ← c .before .before .before .before .before .count-of .ensures .0) (reached .0),
+    let accepted = eq-eqb _ _ (c .before .before .before .before .before .before .before .before .before .before .if1 .left) in
+    let counted = c .before .before .before .before .before .before .count-of .ensures .0 in
+    let reached = c .before .before .before .before .before .rehearsed .ensures in (
+      rw (← c .before .before .before .before .before .before .before .before .before .before .before .verdict-of .ensures, accepted, ← counted) (c .beside .ensures ∙ simp (c .before .spent .ensures, reached .1, reached .2, reached .3)),
+      rw (← c .before .before .before .before .before .before .before .before .before .before .before .verdict-of .ensures, accepted, ← counted) (reached .0),
     )
 
 pub rehearse-spec : {M : Type 1} → statement M
@@ -31,6 +33,7 @@ rehearse-spec =
     (λ c. search needs)
     returns
     (λ c. search needs)
+    (λ c κs. search needs)
     (λ c κs. search needs)
     (λ c κs. search needs)
     (λ c κs. search needs)

@@ -1,7 +1,11 @@
-// Rows of a lent slice by their number. Past its end a row holds nothing and keeps nothing, so that no caller needs to ask first.
+// Rows of a lent slice by their number (document 01, "What the library models"). Past its end a row holds nothing and keeps nothing, so
+// that no caller needs to ask first.
 ghost use mathlib.Core.Path.{_≡_};
 ghost use lib.ListN.{set};
 ghost use Rattle.chip.specs.Slices as spec;
+
+// The most that a row of 24 bits holds. What the slice holds may be above it.
+pub const MOST_HELD: u32 = 16777215;
 
 // What a slice holds at a row.
 pub fn row_at(rows: &[u32], row: u32) -> u32

@@ -1,11 +1,11 @@
--- `access::rows::row_at` meets its contract: past the end there is nothing.
+-- `chip::slices::row_at` meets its contract: past the end there is nothing.
 -- Assumes nothing.
 use borrow.Author.Needs.{needs}
 use mathlib.Core.Path.{sym}
 use denote.Ref.{now}
 use lib.ListN.{List·getD-eq-default}
-use Rattle.access.proofs.rows.row_at.Statement.{statement}
-use Rattle.access.proofs.rows.row_at.Tie as tie
+use Rattle.chip.proofs.slices.row_at.Statement.{statement}
+use Rattle.chip.proofs.slices.row_at.Tie as tie
 
 returns : tie.Need-returns
 returns c = sym (List·getD-eq-default (now (c .before .args .rows)) 0 (c .if1 .taken))

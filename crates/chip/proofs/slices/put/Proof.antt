@@ -1,11 +1,11 @@
--- `access::rows::put` meets its contract: past the end nothing is kept.
+-- `chip::slices::put` meets its contract: past the end nothing is kept.
 -- Assumes nothing.
 use borrow.Author.Needs.{needs}
 use mathlib.Core.Path.{sym}
 use denote.Ref.{now}
 use lib.Seq.{set-out}
-use Rattle.access.proofs.rows.put.Statement.{statement}
-use Rattle.access.proofs.rows.put.Tie as tie
+use Rattle.chip.proofs.slices.put.Statement.{statement}
+use Rattle.chip.proofs.slices.put.Tie as tie
 
 returns : tie.Need-returns
 returns c = sym (set-out (now (c .before .args .rows)) (c .before .args .row) (c .before .args .value) (c .if1 .taken))
