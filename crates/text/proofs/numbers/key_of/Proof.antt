@@ -1,37 +1,32 @@
--- `text::numbers::key_of` is safe and ends: each turn takes one byte of the key. Assumes nothing.
-use Prim.Native.Nat.{_-_}
+-- `text::numbers::key_of` meets its contract: 32 bytes, and all of them digits.
+-- Assumes nothing.
 use borrow.Author.Needs.{needs}
-use lib.ListN.{length}
-use mathlib.Core.Path.{_≡_}
+use borrow.Author.Tests.{eq-eqb, ne-eqb, not-true, not-false}
+use mathlib.Core.Path.{refl, sym, _∙_}
 use Rattle.text.proofs.numbers.key_of.Statement.{statement}
 use Rattle.text.proofs.numbers.key_of.Tie as tie
 
-abbrev Inv-loop : tie.InvT-loop
-Inv-loop text key₀ i₀ key i = length text ≡ 32
+returns : tie.Need-returns
+returns c = rw (ne-eqb _ 32 (c .if1 .taken)) (refl, refl)
 
-abbrev μ-loop : tie.MeasureT-loop
-μ-loop text key₀ i₀ key i = 16 - i
+returns-2 : tie.Need-returns-2
+returns-2 c =
+    rw (
+      eq-eqb _ 32 (c .before .before .if1 .left),
+      ← c .before .all-digits .ensures,
+      not-true (c .before .all-digits .result) (c .if2 .taken),
+    ) (refl, refl)
+
+key-bytes-requires : tie.Need-key-bytes-requires
+key-bytes-requires c κs = (c .before .before .if1 .left, sym (c .before .all-digits .ensures) ∙ not-false (c .before .all-digits .result) (c .if2 .left))
+
+returns-3 : tie.Need-returns-3
+returns-3 c =
+    rw (
+      eq-eqb _ 32 (c .before .before .before .if1 .left),
+      ← c .before .before .all-digits .ensures,
+      not-false (c .before .before .all-digits .result) (c .before .if2 .left),
+    ) (refl, c .key-bytes .ensures)
 
 pub key-of-spec : {M : Type 1} → statement M
-key-of-spec =
-    tie.close
-    (tie.spec
-    Inv-loop
-    μ-loop
-    (λ c. search needs)
-    (λ c. search needs)
-    (λ c. search needs)
-    (λ c. search needs)
-    (λ c κs. search needs)
-    (λ c. search needs)
-    (λ c. search needs)
-    (λ c. search needs)
-    (λ c κs. search needs)
-    (λ c. search needs)
-    (λ c. search needs)
-    (λ c κs. search needs)
-    (λ c. search needs)
-    (λ c. search needs)
-    (λ c. search needs)
-    (λ c. search needs)
-    (λ c. search needs))
+key-of-spec = tie.close (tie.spec returns (λ c κs. search needs) returns-2 key-bytes-requires returns-3)
