@@ -1,4 +1,7 @@
 // A text as lines and words: a line ends at its comment, which begins with '#', and blanks part its words.
+ghost use mathlib.Core.Path.{_≡_};
+ghost use Rattle.chip.specs.Lists as lists;
+ghost use Rattle.text.specs.Words as spec;
 
 // What a search stops at.
 enum Stop {
@@ -15,11 +18,21 @@ pub struct Span {
 }
 
 // A line of a text from another system ends with a carriage return too.
-fn is_blank(byte: u8) -> bool {
-    byte == b' ' || byte == b'\t' || byte == b'\r'
+fn is_blank(byte: u8) -> bool
+    ensures { λ r. ⌜ r ≡ spec.isBlank byte ⌝ }
+{
+    if byte == b' ' {
+        return true;
+    }
+    if byte == b'\t' {
+        return true;
+    }
+    byte == b'\r'
 }
 
-fn stops(stop: Stop, byte: u8) -> bool {
+fn stops(stop: Stop, byte: u8) -> bool
+    ensures { λ r. ⌜ r ≡ spec.stopsAt stop byte ⌝ }
+{
     match stop {
         Stop::LineEnd => byte == b'\n',
         Stop::Comment => byte == b'#',
@@ -29,33 +42,44 @@ fn stops(stop: Stop, byte: u8) -> bool {
 }
 
 // The first place from one on where a search stops, or the end of the text.
-fn find(text: &[u8], from: usize, stop: Stop) -> usize {
-    for i in from..text.len() {
+fn find(text: &[u8], from: usize, stop: Stop) -> usize
+    ensures { λ r. ⌜ r ≡ spec.placeOf (spec.stopsAt stop) (now (text .entry)) from ⌝ }
+{
+    let mut i = from;
+    while i < text.len() {
         if stops(stop, text[i]) {
             return i;
         }
+        i += 1;
     }
     text.len()
 }
 
 // A part of a text, and nothing where the text has no such part.
-pub fn part(text: &[u8], from: usize, to: usize) -> &[u8] {
-    if to <= text.len() {
-        if from <= to {
-            return &text[from..to];
-        }
+pub fn part(text: &[u8], from: usize, to: usize) -> &[u8]
+    ensures { λ r. ⌜ now r ≡ spec.partOf (now (text .entry)) from to ⌝ }
+{
+    if text.len() < to {
+        return &text[0..0];
     }
-    &text[0..0]
+    if to < from {
+        return &text[0..0];
+    }
+    &text[from..to]
 }
 
 // What the line that begins at a place says.
-pub fn line_at(text: &[u8], start: usize) -> &[u8] {
+pub fn line_at(text: &[u8], start: usize) -> &[u8]
+    ensures { λ r. ⌜ now r ≡ spec.lineAt (now (text .entry)) start ⌝ }
+{
     let line = part(text, start, find(text, start, Stop::LineEnd));
     part(line, 0, find(line, 0, Stop::Comment))
 }
 
-// Where the next line begins, which may be past the end of the text.
-pub fn next_line(text: &[u8], start: usize) -> usize {
+// Where the next line begins, which is the end of the text after the last.
+pub fn next_line(text: &[u8], start: usize) -> usize
+    ensures { λ r. ⌜ r ≡ spec.nextLine (now (text .entry)) start ⌝ }
+{
     let end = find(text, start, Stop::LineEnd);
     if end < text.len() {
         return end + 1;
@@ -63,7 +87,10 @@ pub fn next_line(text: &[u8], start: usize) -> usize {
     end
 }
 
-fn word_from(line: &[u8], from: usize) -> Span {
+// The first word from a place on.
+fn word_from(line: &[u8], from: usize) -> Span
+    ensures { λ r. ⌜ r ≡ spec.wordFrom (now (line .entry)) from ⌝ }
+{
     let start = find(line, from, Stop::Word);
     Span {
         from: start,
@@ -72,23 +99,31 @@ fn word_from(line: &[u8], from: usize) -> Span {
 }
 
 // A word of a line, counted from 0. It is empty where there is none.
-pub fn word(line: &[u8], n: u32) -> Span {
+pub fn word(line: &[u8], n: u32) -> Span
+    ensures { λ r. ⌜ r ≡ spec.wordAt (now (line .entry)) n ⌝ }
+{
     let mut span = word_from(line, 0);
-    for turn in 0..n {
+    let mut i = 0;
+    while i < n {
         span = word_from(line, span.to);
+        i += 1;
     }
     span
 }
 
 // Whether two texts are the same.
-pub fn same(a: &[u8], b: &[u8]) -> bool {
+pub fn same(a: &[u8], b: &[u8]) -> bool
+    ensures { λ r. ⌜ r ≡ lists.same (now (a .entry)) (now (b .entry)) ⌝ }
+{
     if a.len() != b.len() {
         return false;
     }
-    for i in 0..a.len() {
+    let mut i = 0;
+    while i < a.len() {
         if a[i] != b[i] {
             return false;
         }
+        i += 1;
     }
     true
 }
