@@ -1,4 +1,9 @@
 // An entry of a job as a person types it: a row, a kind and a value, as `0x0c0 ecc 320` or `0x0c1 raw 0x000003`.
+ghost use mathlib.Core.Path.{_≡_};
+ghost use Prim.Native.Nat.{min};
+ghost use Rattle.chip.specs.Lists.{same};
+ghost use Rattle.text.specs.Lines as spec;
+ghost use Rattle.text.specs.Words.{wordOf};
 use crate::numbers;
 use crate::numbers::Number;
 use crate::words::part;
@@ -27,38 +32,53 @@ pub enum Line {
     Wrong(u32, Why),
 }
 
-// How many words a line has, as far as one more than an entry has.
-fn count(line: &[u8]) -> u32 {
-    for n in 0..4 {
-        let span = word(line, n);
-        if span.to <= span.from {
-            return n;
-        }
-    }
-    4
+// Whether a line has a word, counted from 0.
+fn has(line: &[u8], n: u32) -> bool
+    ensures { λ r. ⌜ r ≡ spec.hasWord (now (line .entry)) n ⌝ }
+{
+    let span = word(line, n);
+    span.from < span.to
 }
 
-fn number(line: &[u8], n: u32) -> Number {
+// The number that a word spells.
+fn number(line: &[u8], n: u32) -> Number
+    ensures { λ r. ⌜ r ≡ spec.numberAt (now (line .entry)) n ⌝ }
+{
     let span = word(line, n);
     numbers::of_text(part(line, span.from, span.to))
 }
 
-fn is(line: &[u8], n: u32, name: &[u8]) -> bool {
+// Whether a word is the one named.
+fn is(line: &[u8], n: u32, name: &[u8]) -> bool
+    ensures { λ r. ⌜ r ≡ same (wordOf (now (line .entry)) n) (now (name .entry)) ⌝ }
+{
     let span = word(line, n);
     same(part(line, span.from, span.to), name)
 }
 
-fn least(a: u32, b: u32) -> u32 {
+fn least(a: u32, b: u32) -> u32
+    ensures { λ r. ⌜ r ≡ min a b ⌝ }
+{
     if a < b { a } else { b }
+}
+
+// Whether a raw value has no room in an entry.
+fn is_cut(kind: u32, value: u32) -> bool
+    ensures { λ r. ⌜ r ≡ spec.isCut kind value ⌝ }
+{
+    if kind != 1 {
+        return false;
+    }
+    0xffffff < value
 }
 
 // An entry has no room for a row above 16 bits, nor for a value above 24. The largest that fits stands for it, which the library
 // refuses for the same reason; only of a raw value it would not.
-fn entry(row: u32, kind: u32, value: u32) -> Line {
-    if kind == 1 {
-        if 0xffffff < value {
-            return Line::Wrong(2, Why::RawValue);
-        }
+fn entry(row: u32, kind: u32, value: u32) -> Line
+    ensures { λ r. ⌜ r ≡ spec.entryOf row kind value ⌝ }
+{
+    if is_cut(kind, value) {
+        return Line::Wrong(2, Why::RawValue);
     }
     Line::Entry(Entry {
         row: least(row, 0xffff),
@@ -67,14 +87,18 @@ fn entry(row: u32, kind: u32, value: u32) -> Line {
     })
 }
 
-fn with_value(line: &[u8], row: u32, kind: u32) -> Line {
+fn with_value(line: &[u8], row: u32, kind: u32) -> Line
+    ensures { λ r. ⌜ r ≡ spec.withValue row kind (spec.numberAt (now (line .entry)) 2) ⌝ }
+{
     match number(line, 2) {
         Number::Is(value) => entry(row, kind, value),
         Number::Not => Line::Wrong(2, Why::Number),
     }
 }
 
-fn with_kind(line: &[u8], row: u32) -> Line {
+fn with_kind(line: &[u8], row: u32) -> Line
+    ensures { λ r. ⌜ r ≡ spec.withKind (now (line .entry)) row ⌝ }
+{
     if is(line, 1, b"ecc") {
         return with_value(line, row, 0);
     }
@@ -84,19 +108,30 @@ fn with_kind(line: &[u8], row: u32) -> Line {
     Line::Wrong(1, Why::Kind)
 }
 
-fn with_row(line: &[u8]) -> Line {
+fn with_row(line: &[u8]) -> Line
+    ensures { λ r. ⌜ r ≡ spec.withRow (now (line .entry)) (spec.numberAt (now (line .entry)) 0) ⌝ }
+{
     match number(line, 0) {
         Number::Is(row) => with_kind(line, row),
         Number::Not => Line::Wrong(0, Why::Number),
     }
 }
 
-pub fn read(line: &[u8]) -> Line {
-    match count(line) {
-        0 => Line::Empty,
-        1 => Line::Wrong(0, Why::Missing),
-        2 => Line::Wrong(1, Why::Missing),
-        3 => with_row(line),
-        _ => Line::Wrong(3, Why::Extra),
+// What a line says.
+pub fn read(line: &[u8]) -> Line
+    ensures { λ r. ⌜ r ≡ spec.lineOf (now (line .entry)) ⌝ }
+{
+    if !has(line, 0) {
+        return Line::Empty;
     }
+    if !has(line, 1) {
+        return Line::Wrong(0, Why::Missing);
+    }
+    if !has(line, 2) {
+        return Line::Wrong(1, Why::Missing);
+    }
+    if has(line, 3) {
+        return Line::Wrong(3, Why::Extra);
+    }
+    with_row(line)
 }

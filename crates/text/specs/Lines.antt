@@ -1,0 +1,66 @@
+-- What a line of a job's text says: nothing, an entry, or that one of its words, counted from 0, is wrong.
+use Prim.Native.Nat.{ℕ, min}
+use mathlib.Core.Bool.{Bool, not, _&&_}
+use mathlib.Core.List.{List, [], _∷_}
+use lib.Dec.{eqb, ltb}
+use Rattle.row.specs.Choice.{if_then_else_}
+use Rattle.chip.specs.Lists.{same}
+use Rattle.text.specs.Numbers.{numberOf}
+use Rattle.text.specs.Words.{wordAt, wordOf}
+use Rattle.text.specs.declared.numbers.Number.{Number}
+use Rattle.text.specs.declared.numbers.Number.the-variants.{Is, Not}
+use Rattle.text.specs.declared.entries.Line.{Line}
+use Rattle.text.specs.declared.entries.Line.the-variants.{Empty, Entry, Wrong}
+use Rattle.text.specs.declared.entries.Why.the-variants as why
+
+-- a line has a word, counted from 0
+abbrev pub hasWord : List ℕ → ℕ → Bool
+hasWord line n = ltb (wordAt line n .from) (wordAt line n .to)
+
+-- the number that a word spells
+abbrev pub numberAt : List ℕ → ℕ → Number
+numberAt line n = numberOf (wordOf line n)
+
+-- the names of the kinds, "ecc" and "raw"
+abbrev pub ecc : List ℕ
+ecc = 101 ∷ 99 ∷ 99 ∷ []
+
+abbrev pub raw : List ℕ
+raw = 114 ∷ 97 ∷ 119 ∷ []
+
+-- a raw value above 24 bits
+abbrev pub isCut : ℕ → ℕ → Bool
+isCut kind value = eqb kind 1 && ltb 0xffffff value
+
+-- an entry has no room for a row above 16 bits, nor for a value above 24: the largest that fits stands for it, and is refused for the
+-- same reason; but of a raw value it would not be
+unfoldable pub entryOf : ℕ → ℕ → ℕ → Line
+entryOf row kind value =
+    if isCut kind value then Wrong 2 why.RawValue
+    else Entry (record { row = min row 0xffff; kind = kind; value = min value 0xffffff })
+
+-- then its value
+abbrev pub withValue : ℕ → ℕ → Number → Line
+withValue row kind Not = Wrong 2 why.Number
+withValue row kind (Is value) = entryOf row kind value
+
+-- then its kind: ecc is 0, raw is 1
+unfoldable pub withKind : List ℕ → ℕ → Line
+withKind line row =
+    if same (wordOf line 1) ecc then withValue row 0 (numberAt line 2)
+    else if same (wordOf line 1) raw then withValue row 1 (numberAt line 2)
+    else Wrong 1 why.Kind
+
+-- its row
+abbrev pub withRow : List ℕ → Number → Line
+withRow line Not = Wrong 0 why.Number
+withRow line (Is row) = withKind line row
+
+-- a line has three words or none
+unfoldable pub lineOf : List ℕ → Line
+lineOf line =
+    if not (hasWord line 0) then Empty
+    else if not (hasWord line 1) then Wrong 0 why.Missing
+    else if not (hasWord line 2) then Wrong 1 why.Missing
+    else if hasWord line 3 then Wrong 3 why.Extra
+    else withRow line (numberAt line 0)
