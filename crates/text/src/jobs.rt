@@ -1,10 +1,14 @@
 // A job from a text, line by line.
+ghost use mathlib.Core.Path.{_≡_};
+ghost use Prim.Native.Nat.{_<_};
+ghost use Rattle.form.specs.Writing.{withEntries};
+ghost use Rattle.text.specs.Jobs as spec;
 use crate::entries;
 use crate::entries::Line;
 use crate::entries::Why;
-use crate::job_bytes::put_entry;
 use crate::words::line_at;
 use crate::words::next_line;
+use form::writing::put_entry;
 
 // How far a text is read: the line that was read last, where it and the next begin, the entries so far, and what is wrong with which
 // word of the line. Once `going` is false, nothing more is read.
@@ -18,7 +22,12 @@ pub struct Reading {
     pub why: Why,
 }
 
-fn begun() -> Reading {
+// More lines than a text of 65,536 bytes has.
+const LINES: u32 = 65537;
+
+fn begun() -> Reading
+    ensures { λ r. ⌜ r ≡ spec.begun ⌝ }
+{
     Reading {
         line: 0,
         start: 0,
@@ -30,19 +39,14 @@ fn begun() -> Reading {
     }
 }
 
-// One more. No text has so many lines.
-fn next(count: u32) -> u32 {
-    if 1000000 < count {
-        return count;
-    }
-    count + 1
-}
-
 // The line is read, and there are so many entries now.
-fn passed(text: &[u8], reading: Reading, count: u32) -> Reading {
+fn passed(text: &[u8], reading: Reading, count: u32) -> Reading
+    requires { ⌜ reading .line < 65537 ⌝ }
+    ensures { λ r. ⌜ r ≡ spec.passed (now (text .entry)) reading count ⌝ }
+{
     let start = reading.next;
     Reading {
-        line: next(reading.line),
+        line: reading.line + 1,
         start,
         next: next_line(text, start),
         count,
@@ -53,10 +57,13 @@ fn passed(text: &[u8], reading: Reading, count: u32) -> Reading {
 }
 
 // The line is wrong.
-fn stopped(reading: Reading, word: u32, why: Why) -> Reading {
+fn stopped(reading: Reading, word: u32, why: Why) -> Reading
+    requires { ⌜ reading .line < 65537 ⌝ }
+    ensures { λ r. ⌜ r ≡ spec.stopped reading word why ⌝ }
+{
     let start = reading.next;
     Reading {
-        line: next(reading.line),
+        line: reading.line + 1,
         start,
         next: start,
         count: reading.count,
@@ -67,30 +74,50 @@ fn stopped(reading: Reading, word: u32, why: Why) -> Reading {
 }
 
 // One line more.
-fn step(text: &[u8], job: &mut [u8], reading: Reading) -> Reading {
+fn step(text: &[u8], job: &mut [u8], reading: Reading) -> Reading
+    requires { ⌜ reading .line < 65537 ⌝ }
+    requires { ⌜ reading .count < 65537 ⌝ }
+    ensures { λ r. ⌜ r ≡ spec.readBy (now (text .entry)) reading (spec.nextOf (now (text .entry)) reading) ⌝ }
+    ensures { λ _. ⌜ now (job .exit) ≡ withEntries (now (job .entry)) (reading .count) (spec.entryBy (spec.nextOf (now (text .entry)) reading)) ⌝ }
+{
     let start = reading.next;
     let count = reading.count;
     match entries::read(line_at(text, start)) {
         Line::Empty => passed(text, reading, count),
         Line::Entry(entry) => {
             put_entry(job, count, entry);
-            passed(text, reading, next(count))
+            passed(text, reading, count + 1)
         }
         Line::Wrong(word, why) => stopped(reading, word, why),
     }
 }
 
-// More lines than a text of 65,536 bytes has.
-const LINES: u32 = 65537;
+// Whether there is more to read.
+fn goes_on(text: &[u8], most: u32, reading: Reading) -> bool
+    ensures { λ r. ⌜ r ≡ spec.goesOn (now (text .entry)) most reading ⌝ }
+{
+    if !reading.going {
+        return false;
+    }
+    if most <= reading.count {
+        return false;
+    }
+    reading.next < text.len()
+}
 
-// Reads a text as far as so many entries, its end or a wrong line.
-pub fn read(text: &[u8], job: &mut [u8], most: u32) -> Reading {
+// Reads a text as far as so many entries, its end or a wrong line, and puts its entries into a job.
+pub fn read(text: &[u8], job: &mut [u8], most: u32) -> Reading
+    ensures { λ r. ⌜ r ≡ spec.readingOf (now (text .entry)) most ⌝ }
+    ensures { λ _. ⌜ now (job .exit) ≡ withEntries (now (job .entry)) 0 (spec.entriesOf (now (text .entry)) most) ⌝ }
+{
     let mut reading = begun();
-    for turn in 0..LINES {
-        if !reading.going || most <= reading.count || text.len() <= reading.next {
+    let mut turn = 0;
+    while turn < LINES {
+        if !goes_on(text, most, reading) {
             return reading;
         }
         reading = step(text, job, reading);
+        turn += 1;
     }
     reading
 }

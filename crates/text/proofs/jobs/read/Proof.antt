@@ -1,16 +1,69 @@
--- `text::jobs::read` is safe and ends: each turn reads one line. Assumes nothing.
-use Prim.Native.Nat.{_-_}
+-- `text::jobs::read` meets its contract. The invariant: the lines that are left lead to the end that all of them lead to, and put into the
+-- job what is missing of all entries.
+-- Assumes nothing.
 use borrow.Author.Needs.{needs}
+use borrow.Author.Tests.{not-true, not-false}
+use denote.Ref.{now}
+use mathlib.Core.Path.{_≡_, refl, sym, ap, _∙_}
+use Prim.Native.Nat.{_-_, _≤_}
+use native.Mathlib.Omega.{arith}
 use lib.ListN.{length}
-use mathlib.Core.Path.{_≡_}
+use Rattle.form.specs.Writing.{withEntries}
+use Rattle.text.specs.Jobs.{nextOf, readFrom, entriesFrom, mostLines, readingOf, entriesOf}
+use Rattle.text.specs.declared.jobs.Reading.{Reading}
+use Rattle.text.proofs.LineByLine.{one-line, one-entry, read-ends, put-ends, read-last, put-last, read-next, put-next}
 use Rattle.text.proofs.jobs.read.Statement.{statement}
 use Rattle.text.proofs.jobs.read.Tie as tie
 
 abbrev Inv-loop : tie.InvT-loop
-Inv-loop text job₀ most reading₀ turn₀ job reading turn = length job ≡ length job₀
+Inv-loop text job₀ most reading₀ turn₀ job reading turn =
+    ((turn ≤ mostLines) × (reading .line ≤ turn) × (reading .count ≤ turn) × (length job ≡ length job₀))
+    × (readingOf text most ≡ readFrom (mostLines - turn) text most reading)
+    × (withEntries job₀ 0 (entriesOf text most) ≡ withEntries job (reading .count) (entriesFrom (mostLines - turn) text most reading))
 
 abbrev μ-loop : tie.MeasureT-loop
-μ-loop text job₀ most reading₀ turn₀ job reading turn = 65537 - turn
+μ-loop text job₀ most reading₀ turn₀ job reading turn = mostLines - turn
+
+loop-holds : tie.Need-loop-holds Inv-loop μ-loop
+loop-holds c = rw (c .begun .ensures) ((omega arith, omega arith, omega arith, refl), refl, refl)
+
+same-length : tie.Need-same-length Inv-loop μ-loop
+same-length c = search needs
+
+returns : tie.Need-returns Inv-loop μ-loop
+returns c =
+    let a = c .before .before .before .before .before .before .before .args in
+    let l = c .before .before .before .loop in
+    let ends = sym (c .before .goes-on .ensures) ∙ not-true (c .before .goes-on .result) (c .if1 .taken) in (
+      sym (l .inv .1 ∙ read-ends (now (a .text)) (l .reading) (a .most) (mostLines - l .turn) ends),
+      sym (l .inv .2 ∙ put-ends (now (a .text)) (l .reading) (a .most) (l .job) (mostLines - l .turn) ends),
+    )
+
+step-requires : tie.Need-step-requires Inv-loop μ-loop
+step-requires c κs = search needs
+
+loop-again : tie.Need-loop-again Inv-loop μ-loop
+loop-again c =
+    let a = c .before .before .before .before .before .before .before .before .before .before .before .args in
+    let l = c .before .before .before .before .before .before .before .loop in
+    let test = c .before .before .before .before .before in
+    let goes = sym (test .goes-on .ensures) ∙ not-false (test .goes-on .result) (c .before .before .before .before .if1 .left) in
+    let line = nextOf (now (a .text)) (l .reading) in
+    let step = c .before .before .step .ensures in
+    let lines = ap (λ (r : Reading). r .line) (step .0) ∙ one-line (now (a .text)) (l .reading) line in
+    let count = ap (λ (r : Reading). r .count) (step .0) in (
+      (omega arith, omega arith, omega (arith, one-entry (now (a .text)) (l .reading) line), search needs),
+      rw (step .0) (l .inv .1 ∙ read-next (now (a .text)) (l .reading) (a .most) (l .turn) (omega arith) goes),
+      rw (step .0, step .1) (l .inv .2 ∙ put-next (now (a .text)) (l .reading) (a .most) (l .turn) (omega arith) goes (l .job)),
+    )
+
+returns-2 : tie.Need-returns-2 Inv-loop μ-loop
+returns-2 c =
+    let a = c .before .before .before .before .before .args in
+    let l = c .before .loop in (
+      sym (l .inv .1 ∙ read-last (now (a .text)) (l .reading) (a .most) (l .turn) (omega arith)),
+      sym (l .inv .2 ∙ put-last (now (a .text)) (l .reading) (a .most) (l .job) (l .turn) (omega arith)),
+    )
 
 pub read-spec : {M : Type 1} → statement M
 read-spec =
@@ -19,12 +72,13 @@ read-spec =
     Inv-loop
     μ-loop
     (λ c κs. search needs)
-    (λ c. search needs)
-    (λ c. search needs)
-    (λ c. search needs)
+    loop-holds
     (λ c κs. search needs)
+    same-length
+    returns
+    step-requires
     (λ c. search needs)
     (λ c. search needs)
+    loop-again
     (λ c. search needs)
-    (λ c. search needs)
-    (λ c. search needs))
+    returns-2)
