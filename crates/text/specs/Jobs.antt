@@ -62,13 +62,13 @@ entryBy (Wrong word why) = []
 abbrev pub goesOn : List ℕ → ℕ → Reading → Bool
 goesOn text most reading = reading .going && ltb (reading .count) most && ltb (reading .next) (length text)
 
--- how far it is read, in so many lines at most
+-- how far it is read from here, in so many lines at most
 unfoldable pub readFrom : ℕ → List ℕ → ℕ → Reading → Reading
 readFrom zero text most reading = reading
 readFrom (suc lines) text most reading =
     if goesOn text most reading then readFrom lines text most (readBy text reading (nextOf text reading)) else reading
 
--- and the entries that it gives
+-- and the entries that it gives from here
 unfoldable pub entriesFrom : ℕ → List ℕ → ℕ → Reading → List form.Entry
 entriesFrom zero text most reading = []
 entriesFrom (suc lines) text most reading =
@@ -76,12 +76,14 @@ entriesFrom (suc lines) text most reading =
     then entryBy (nextOf text reading) ++ entriesFrom lines text most (readBy text reading (nextOf text reading))
     else []
 
--- a text of 65,536 bytes has no more lines than this
+-- more lines than a text of 65,536 bytes has
 abbrev pub mostLines : ℕ
 mostLines = 65537
 
+-- how far a text is read
 abbrev pub readingOf : List ℕ → ℕ → Reading
 readingOf text most = readFrom mostLines text most begun
 
+-- the entries that it gives
 abbrev pub entriesOf : List ℕ → ℕ → List form.Entry
 entriesOf text most = entriesFrom mostLines text most begun

@@ -32,31 +32,31 @@ raw = 114 ∷ 97 ∷ 119 ∷ []
 abbrev pub isCut : ℕ → ℕ → Bool
 isCut kind value = eqb kind 1 && ltb 0xffffff value
 
--- an entry has no room for a row above 16 bits, nor for a value above 24: the largest that fits stands for it, and is refused for the
--- same reason; but of a raw value it would not be
+-- an entry has room for a row of 16 bits and a value of 24. For a larger one the largest stands, which a job may not have either; but a
+-- raw value of 24 bits it may have, so a larger one is wrong here
 unfoldable pub entryOf : ℕ → ℕ → ℕ → Line
 entryOf row kind value =
     if isCut kind value then Wrong 2 why.RawValue
     else Entry (record { row = min row 0xffff; kind = kind; value = min value 0xffffff })
 
--- then its value
+-- a row and a kind, with the value that a word spells
 abbrev pub withValue : ℕ → ℕ → Number → Line
 withValue row kind Not = Wrong 2 why.Number
 withValue row kind (Is value) = entryOf row kind value
 
--- then its kind: ecc is 0, raw is 1
+-- a row, with the kind that the second word names and the value that the third spells: ecc is 0, raw is 1
 unfoldable pub withKind : List ℕ → ℕ → Line
 withKind line row =
     if same (wordOf line 1) ecc then withValue row 0 (numberAt line 2)
     else if same (wordOf line 1) raw then withValue row 1 (numberAt line 2)
     else Wrong 1 why.Kind
 
--- its row
+-- the row that a word spells, with the words after it
 abbrev pub withRow : List ℕ → Number → Line
 withRow line Not = Wrong 0 why.Number
 withRow line (Is row) = withKind line row
 
--- a line has three words or none
+-- a line has three words or none: a row, a kind and a value
 unfoldable pub lineOf : List ℕ → Line
 lineOf line =
     if not (hasWord line 0) then Empty
