@@ -2,6 +2,7 @@
 -- Assumes nothing.
 use borrow.Author.Needs.{needs}
 use denote.Ref.{now}
+use mathlib.Core.Path.{refl}
 use Prim.Native.Nat.{_+_, _*_}
 use native.Mathlib.Omega.{arith}
 use Rattle.text.proofs.Digits.{digit-at}
@@ -17,7 +18,7 @@ cast-result c =
     omega arith
 
 returns : tie.Need-returns
-returns c = search needs
+returns c = rw (c .before .before .digit .ensures .0, c .digit2 .ensures .0) refl
 
 pub key-byte-spec : {M : Type 1} → statement M
 key-byte-spec =
