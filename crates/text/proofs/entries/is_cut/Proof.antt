@@ -1,6 +1,5 @@
 -- `text::entries::is_cut` meets its contract: only a raw value is cut.
 -- Assumes nothing.
-use borrow.Author.Needs.{needs}
 use borrow.Author.Tests.{eq-eqb, ne-eqb}
 use mathlib.Core.Path.{refl}
 use Rattle.text.proofs.entries.is_cut.Statement.{statement}

@@ -1,12 +1,9 @@
 -- `text::jobs::step` meets its contract, by what the line says.
 -- Assumes nothing.
 use borrow.Author.Needs.{needs}
-use denote.Ref.{now}
-use mathlib.Core.Path.{_≡_, refl, sym, ap, _∙_}
+use mathlib.Core.Path.{refl, sym, ap, _∙_}
 use Rattle.form.specs.Writing.{withEntries}
 use Rattle.text.specs.Lines.{lineOf}
-use Rattle.text.specs.Jobs.{nextOf}
-use Rattle.text.specs.declared.entries.Line.the-variants.{Empty, Entry, Wrong}
 use Rattle.text.proofs.jobs.step.Statement.{statement}
 use Rattle.text.proofs.jobs.step.Tie as tie
 

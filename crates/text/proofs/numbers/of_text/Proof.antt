@@ -3,7 +3,6 @@
 use borrow.Author.Needs.{needs}
 use denote.Ref.{now}
 use mathlib.Core.Path.{sym, ap, _∙_}
-use native.Mathlib.Omega.{arith}
 use Rattle.text.specs.Numbers.{numberIn}
 use Rattle.text.proofs.Digits.{hexadecimal-long, rest-whole}
 use Rattle.text.proofs.numbers.of_text.Statement.{statement}
