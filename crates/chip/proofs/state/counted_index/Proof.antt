@@ -14,6 +14,12 @@ returns c =
     let long : length (a .t1) ≡ 64 = c .before .before .good .0 .1 .0 .1 in
     sym (ap (λ (index : ℕ). min index 7) (List·getD-eq-default (a .t1) 0 (omega arith)))
 
+returns-2 : tie.Need-returns-2
+returns-2 c = search needs
+
+returns-3 : tie.Need-returns-3
+returns-3 c = search needs
+
 pub counted-index-spec : {M : Type 1} → statement M
 counted-index-spec =
-    tie.close (tie.spec (λ c. search needs) returns (λ c. search needs) (λ c. search needs) (λ c. search needs) (λ c. search needs))
+    tie.close (tie.spec (λ c. search needs) returns (λ c. search needs) returns-2 (λ c. search needs) returns-3)

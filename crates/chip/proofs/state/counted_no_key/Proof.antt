@@ -14,5 +14,8 @@ returns c =
     let long : length (a .t1) ≡ 64 = c .before .before .good .0 .1 .0 .1 in
     sym (List·getD-eq-default (a .t1) false (omega arith))
 
+returns-2 : tie.Need-returns-2
+returns-2 c = search needs
+
 pub counted-no-key-spec : {M : Type 1} → statement M
-counted-no-key-spec = tie.close (tie.spec (λ c. search needs) returns (λ c. search needs) (λ c. search needs))
+counted-no-key-spec = tie.close (tie.spec (λ c. search needs) returns (λ c. search needs) returns-2)

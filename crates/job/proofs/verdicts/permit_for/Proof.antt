@@ -13,6 +13,9 @@ returns c =
       c .before .before .pre ∙ share-write (s .state) 0 (s .before .row) (s .row) (sym (c .before .share-permission .ensures) ∙ c .if1 .taken),
     )
 
+returns-2 : tie.Need-returns-2
+returns-2 c = search needs
+
 pub permit-for-spec : {M : Type 1} → statement M
 permit-for-spec =
-    tie.close (tie.spec (λ c κs. search needs) returns (λ c κs. search needs) (λ c. search needs))
+    tie.close (tie.spec (λ c κs. search needs) returns (λ c κs. search needs) returns-2)
