@@ -1,6 +1,7 @@
 // The page that `otp help` shows.
-use crate::ended::Ended;
-use crate::print;
+use console::ended;
+use console::word;
+use screen::print;
 
 fn on_an_image() {
     print::line(b"./otp rehearse IMAGE JOB [LIMIT] [--key HEX32] [--save OUT [--replace]]");
@@ -82,7 +83,7 @@ fn on_other_files() {
     print::line(b"    This page.");
 }
 
-pub fn run() -> Ended {
+fn page() {
     on_an_image();
     on_rows_of_an_image();
     on_other_files();
@@ -98,5 +99,12 @@ pub fn run() -> Ended {
     print::line(
         b"The exit status is 0 where the answer is 0, 1 where it is a refusal, 2 for a wrong word or file.",
     );
-    Ended::Answered(0)
+}
+
+// The page names no file.
+pub fn run() {
+    if !word::naming() {
+        page();
+    }
+    ended::answered(0);
 }

@@ -1,0 +1,28 @@
+-- `doing::changes::lines` is safe and ends: each turn takes one entry. Assumes nothing.
+use Prim.Native.Nat.{_-_}
+use borrow.Author.Needs.{needs}
+use Rattle.doing.proofs.changes.lines.Statement.{statement}
+use Rattle.doing.proofs.changes.lines.Tie as tie
+
+abbrev Inv-loop : tie.InvT-loop
+Inv-loop before after job count place₀ place = Unit
+
+abbrev μ-loop : tie.MeasureT-loop
+μ-loop before after job count place₀ place = count - place
+
+pub lines-spec : {M : Type 1} → statement M
+lines-spec =
+    tie.close
+    (tie.spec
+    Inv-loop
+    μ-loop
+    (λ c κs. search needs)
+    (λ c. search needs)
+    (λ c κs. search needs)
+    (λ c κs. search needs)
+    (λ c κs. search needs)
+    (λ c κs. search needs)
+    (λ c. search needs)
+    (λ c. search needs)
+    (λ c. search needs)
+    (λ c. search needs))

@@ -1,0 +1,26 @@
+-- `looking::list::lines` is safe and ends: each turn takes one entry. Assumes nothing.
+use Prim.Native.Nat.{_-_}
+use borrow.Author.Needs.{needs}
+use Rattle.looking.proofs.list.lines.Statement.{statement}
+use Rattle.looking.proofs.list.lines.Tie as tie
+
+abbrev Inv-loop : tie.InvT-loop
+Inv-loop job count place₀ place = Unit
+
+abbrev μ-loop : tie.MeasureT-loop
+μ-loop job count place₀ place = count - place
+
+pub lines-spec : {M : Type 1} → statement M
+lines-spec =
+    tie.close
+    (tie.spec
+    Inv-loop
+    μ-loop
+    (λ c κs. search needs)
+    (λ c. search needs)
+    (λ c κs. search needs)
+    (λ c κs. search needs)
+    (λ c. search needs)
+    (λ c. search needs)
+    (λ c. search needs)
+    (λ c. search needs))

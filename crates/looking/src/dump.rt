@@ -1,0 +1,41 @@
+// `otp dump`: the rows that hold bits, or all rows of a range.
+use crate::dump_lines;
+use board::begin::Start;
+use board::begin::begin;
+use board::begin::finish;
+use board::range;
+use board::range::Range;
+use board::range::Rows;
+use console::options::Words;
+use console::takes::Role;
+use console::takes::Takes;
+use console::usage::Given;
+use console::usage::asked;
+
+fn of_range(words: Words, range: Range) {
+    let mut rows = [0u32; 4096];
+    let begun = begin(words, &mut rows);
+    let start = begun.start;
+    let state = begun.state;
+    if let Start::Ready = start {
+        dump_lines::show(&rows, state, range);
+        finish(words, state, 0);
+    }
+}
+
+fn of_words(words: Words) {
+    if words.second == 0 {
+        of_range(words, range::held_before(4096));
+        return;
+    }
+    if let Rows::Range(range) = range::named(words) {
+        of_range(words, range);
+    }
+}
+
+pub fn run() {
+    let takes = Takes::on_image(Role::Other, 1, 3);
+    if let Given::Words(words) = asked(takes) {
+        of_words(words);
+    }
+}

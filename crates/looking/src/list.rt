@@ -1,0 +1,85 @@
+// `otp list`: the entries of a job as the text that `otp write` takes, with both rows of an ECC value behind it, or why it has none.
+use console::ended;
+use console::files::Length;
+use console::files::load_job;
+use console::takes::Role;
+use console::takes::Takes;
+use console::usage::Given;
+use console::usage::asked;
+use form::entries::Entry;
+use form::entries::count_of;
+use form::entries::entry_at;
+use form::faults::fault_number;
+use form::faults::fault_of;
+use row::coding::inverted;
+use row::coding::plain;
+use screen::print;
+use text::words::part;
+use wording::job_refusals;
+
+// "ecc 320       # 0x0140, plain 0x050140, inverted 0xfafebf"
+fn ecc(value: u16) {
+    print::text(b" ecc ");
+    print::number_left(value as u32, 8);
+    print::value_after(b"# ", value as u32);
+    print::bits_after(b", plain ", plain(value));
+    print::bits_after(b", inverted ", inverted(value));
+    print::end();
+}
+
+fn entry_line(entry: Entry) {
+    print::row(entry.row);
+    if entry.kind == 0 {
+        ecc((entry.value % 65536) as u16);
+        return;
+    }
+    print::bits_after(b" raw ", entry.value);
+    print::end();
+}
+
+fn lines(job: &[u8]) {
+    let count = count_of(job);
+    for place in 0..count {
+        entry_line(entry_at(job, place));
+    }
+}
+
+fn last_line(count: u32) {
+    print::number_after(b"# ", count);
+    if count == 1 {
+        print::line(b" entry");
+        return;
+    }
+    print::line(b" entries");
+}
+
+fn of_job(job: &[u8]) {
+    let number = fault_number(fault_of(job));
+    if number != 0 {
+        job_refusals::headline(job, number, 0);
+        ended::answered(number);
+        return;
+    }
+    lines(job);
+    last_line(count_of(job));
+    ended::answered(0);
+}
+
+// The job is the first bytes of an array.
+fn of_bytes(bytes: &[u8; 3080], length: usize) {
+    of_job(part(bytes, 0, length));
+}
+
+fn of_file(place: usize) {
+    let mut bytes = [0u8; 3080];
+    if let Length::Is(n) = load_job(place, &mut bytes) {
+        of_bytes(&bytes, n);
+    }
+}
+
+pub fn run() {
+    let takes = Takes::words(Role::Job, Role::Other, 1, 1);
+    if let Given::Words(words) = asked(takes) {
+        of_file(words.first);
+    }
+}

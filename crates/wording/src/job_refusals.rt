@@ -1,0 +1,63 @@
+// Why a job is refused: the number, its words, and what it is about.
+use crate::refusals::number_and_words;
+use crate::refusals::of_row;
+use form::entries::entry_at;
+use form::faults::Fault;
+use form::faults::fault_of;
+use screen::print;
+
+// ", entry 2, row 0x0c3"
+fn of_entry(job: &[u8], place: u32) {
+    let entry = entry_at(job, place);
+    print::number_after(b", entry ", place);
+    of_row(entry.row);
+}
+
+// ", entry 2, row 0x0c3 after row 0x0c4"
+fn after_entry(job: &[u8], place: u32) {
+    of_entry(job, place);
+    if place == 0 {
+        return;
+    }
+    let before = entry_at(job, place - 1);
+    print::text(b" after row ");
+    print::row(before.row);
+}
+
+// A fault of one entry.
+fn entry_fault(words: &[u8], job: &[u8], place: u32) {
+    print::text(words);
+    of_entry(job, place);
+}
+
+// A fault of the job's head.
+fn head_fault(fault: Fault) {
+    match fault {
+        Fault::Short => print::text(b": short"),
+        Fault::Mark => print::text(b": mark not 4f 54 4a"),
+        Fault::Version => print::text(b": version not 1"),
+        Fault::Count => print::text(b": count above 512"),
+        _ => print::text(b": length not 7 + 6 x count"),
+    }
+}
+
+// The fault of the bytes as the library finds it or, where there is none, the entry at the answer's place.
+fn reason(job: &[u8], fault: Fault, place: u32) {
+    match fault {
+        Fault::Sound => of_entry(job, place),
+        Fault::Kind(at) => entry_fault(b": kind above 1", job, at),
+        Fault::Value(at) => entry_fault(b": ECC value above 65,535", job, at),
+        Fault::High(at) => entry_fault(b": from 0xf40 up", job, at),
+        Fault::Order(at) => {
+            print::text(b": not above the row before it");
+            after_entry(job, at);
+        }
+        _ => head_fault(fault),
+    }
+}
+
+pub fn headline(job: &[u8], number: u32, place: u32) {
+    number_and_words(number);
+    reason(job, fault_of(job), place);
+    print::end();
+}
