@@ -5,7 +5,7 @@ use denote.Ref.{now}
 use mathlib.Core.Bool.{Bool}
 use mathlib.Core.List.{List}
 use mathlib.Core.Path.{_≡_, refl, ap, _∙_}
-use Prim.Native.Nat.{ℕ, _-_, _≤_}
+use Prim.Native.Nat.{ℕ, _-_, _≤_, _<_}
 use native.Mathlib.Omega.{arith}
 use Rattle.chip.specs.Lists.{listed}
 use Rattle.chip.specs.Pages.{lowLockRow, highLockRow}
@@ -57,14 +57,15 @@ loop-again c =
     let l = c .before .before .before .before .before .before .loop in
     let low = ap (rowAt rows) (c .before .before .before .before .low-lock-row .ensures) in
     let high = ap (rowAt rows) (c .before .before .before .high-lock-row .ensures) in
-    let word = c .lock-word .ensures in (
+    let word = c .lock-word .ensures in
+    let below : l .at < 64 = omega arith in (
       omega arith,
-      filled-more 64 (secure-rule rows) (l .secure) (l .at) _ (omega arith) (word .0 ∙ ap (λ (row : ℕ). levelOf (secureField row)) high) (l .inv .1),
-      filled-more 64 (nonsecure-rule rows) (l .nonsecure) (l .at) _ (omega arith) (word .1 ∙ ap (λ (row : ℕ). levelOf (nonsecureField row)) high) (l .inv .2),
-      filled-more 64 (bootloader-rule rows) (l .bootloader) (l .at) _ (omega arith) (word .2 ∙ ap (λ (row : ℕ). levelOf (bootloaderField row)) high) (l .inv .3),
-      filled-more 64 (writekey-rule rows) (l .writekey) (l .at) _ (omega arith) (word .3 ∙ ap (λ (row : ℕ). writeKeyField row) low) (l .inv .4),
-      filled-more 64 (readkey-rule rows) (l .readkey) (l .at) _ (omega arith) (word .4 ∙ ap (λ (row : ℕ). readKeyField row) low) (l .inv .5),
-      filled-more 64 (nokey-rule rows) (l .nokey) (l .at) _ (omega arith) (word .5 ∙ ap (λ (row : ℕ). noKeyField row) low) (l .inv .6),
+      filled-more 64 (secure-rule rows) (l .secure) (l .at) _ below (word .0 ∙ ap (λ (row : ℕ). levelOf (secureField row)) high) (l .inv .1),
+      filled-more 64 (nonsecure-rule rows) (l .nonsecure) (l .at) _ below (word .1 ∙ ap (λ (row : ℕ). levelOf (nonsecureField row)) high) (l .inv .2),
+      filled-more 64 (bootloader-rule rows) (l .bootloader) (l .at) _ below (word .2 ∙ ap (λ (row : ℕ). levelOf (bootloaderField row)) high) (l .inv .3),
+      filled-more 64 (writekey-rule rows) (l .writekey) (l .at) _ below (word .3 ∙ ap (λ (row : ℕ). writeKeyField row) low) (l .inv .4),
+      filled-more 64 (readkey-rule rows) (l .readkey) (l .at) _ below (word .4 ∙ ap (λ (row : ℕ). readKeyField row) low) (l .inv .5),
+      filled-more 64 (nokey-rule rows) (l .nokey) (l .at) _ below (word .5 ∙ ap (λ (row : ℕ). noKeyField row) low) (l .inv .6),
     )
 
 returns : tie.Need-returns Inv-loop μ-loop
