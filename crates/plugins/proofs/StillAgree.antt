@@ -99,8 +99,8 @@ module _ (a b : Chip) (agree : Agree a b) (rows-a rows-b : List ℕ) (state-a st
       → ((domain : ℕ) → levelsOf (a .state) domain ≡ levelsOf (b .state) domain → levelsOf state-a domain ≡ levelsOf state-b domain)
       → SameAsBefore a b LeftA LeftB
   still-same entries levels = record {
-    entries = entries;
-    levels = levels;
+    entries = λ row same. entries row same;
+    levels = λ domain same. levels domain same;
     writeKeys = λ same. rw (stay-a .writekey, stay-b .writekey) same;
     readKeys = λ same. rw (stay-a .readkey, stay-b .readkey) same;
   }
