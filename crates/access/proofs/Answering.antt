@@ -7,12 +7,13 @@ use mathlib.Core.Path.{_≡_, refl, sym, ap, _∙_}
 use Prim.Native.Nat.{ℕ}
 use borrow.Author.Tests.{eq-eqb, ne-eqb, eqb-false}
 use lib.Dec.{T, eqb}
-use Rattle.row.specs.Answers.{refused, told, answered}
-use Rattle.row.specs.Reading.{readRow, undecodable}
-use Rattle.row.specs.Rungs.{Rung, _when_, firstOf, orElse}
-use Rattle.row.specs.declared.answer.Answer.{Answer}
-use Rattle.row.proofs.Choices.{own-number}
-use Rattle.row.proofs.Ladders.{refusing, then-rungs, read-or-8, eight}
+use Rattle.answer.specs.Answers.{refused, told, answered}
+use Rattle.decode.specs.Reading.{readRow, undecodable}
+use Rattle.answer.specs.Rungs.{Rung, _when_, firstOf, orElse}
+use Rattle.answer.specs.declared.answers.Answer.{Answer}
+use Rattle.answer.proofs.Choices.{own-number}
+use Rattle.answer.proofs.Ladders.{refusing, then-rungs}
+use Rattle.decode.proofs.Undecoded.{read-or-8, eight}
 
 module _ (rungs : List Rung) (some : T (refusing rungs)) (held : ℕ) where
   abbrev number : ℕ

@@ -1,4 +1,3 @@
 pub mod Answering
 pub mod Passing
-pub mod Staying
 pub mod Upward

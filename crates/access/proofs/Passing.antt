@@ -8,10 +8,10 @@ use native.Mathlib.Omega.{arith}
 use borrow.Author.Tests.{le-ltb, ltb-false, eqb-true, not-false}
 use lib.Dec.{eqb, ltb}
 use lib.ListN.{length}
-use Rattle.row.specs.Rungs.{firstOf}
-use Rattle.row.proofs.Ladders.{passed}
+use Rattle.answer.specs.Rungs.{firstOf}
+use Rattle.answer.proofs.Ladders.{passed}
 use Rattle.chip.specs.Callers.{noCaller}
-use Rattle.chip.specs.Keys.{hidden}
+use Rattle.permit.specs.Keys.{hidden}
 use Rattle.chip.specs.Pages.{isLockRow}
 use Rattle.chip.specs.Slices.{rowAt, notWhole, tooLarge}
 use Rattle.chip.specs.declared.state.State.{State}

@@ -11,10 +11,10 @@ use borrow.Author.Tests.{eq-eqb, ne-eqb, eqb-true}
 use lib.Dec.{eqb}
 use lib.ListN.{length, getD, take, drop, set, replicate, length-drop}
 use lib.Seq.{take-suc, append-snoc, length-take-le, set-at, take-at, getD-drop}
-use Rattle.chip.specs.Permission.{mayRead}
+use Rattle.permit.specs.Permission.{mayRead}
 use Rattle.chip.specs.declared.state.State.{State}
-use Rattle.row.specs.Rungs.{firstOf, orElse}
-use Rattle.row.proofs.Ladders.{refusing, then-rungs}
+use Rattle.answer.specs.Rungs.{firstOf, orElse}
+use Rattle.answer.proofs.Ladders.{refusing, then-rungs}
 use Rattle.access.specs.Judging.{rowRungs}
 use Rattle.access.specs.Votes.{groupRungs, group, gathered}
 

@@ -3,9 +3,9 @@ use Prim.Native.Nat.{ℕ}
 use mathlib.Core.Bool.{Bool, true, false, not, _&&_}
 use mathlib.Core.List.{List, [], _∷_}
 use lib.Dec.{ltb}
-use Rattle.row.specs.Rungs.{Rung, _when_}
+use Rattle.answer.specs.Rungs.{Rung, _when_}
 use Rattle.chip.specs.Callers.{noCaller}
-use Rattle.chip.specs.Keys.{hidden}
+use Rattle.permit.specs.Keys.{hidden}
 use Rattle.chip.specs.Pages.{isLockRow}
 use Rattle.chip.specs.Slices.{notWhole, tooLarge}
 use Rattle.chip.specs.declared.state.State.{State}

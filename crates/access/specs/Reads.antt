@@ -1,11 +1,11 @@
 -- The reads of one row: raw and ECC (document 01). Each has its number, first test first, and what it answers.
 use Prim.Native.Nat.{ℕ}
 use mathlib.Core.List.{List, [], _∷_, _++_}
-use Rattle.row.specs.Answers.{told, answered}
-use Rattle.row.specs.Reading.{readRow, undecodable}
-use Rattle.row.specs.Rungs.{_when_, firstOf}
-use Rattle.row.specs.declared.answer.Answer.{Answer}
-use Rattle.chip.specs.Permission.{mayRead}
+use Rattle.answer.specs.Answers.{told, answered}
+use Rattle.decode.specs.Reading.{readRow, undecodable}
+use Rattle.answer.specs.Rungs.{_when_, firstOf}
+use Rattle.answer.specs.declared.answers.Answer.{Answer}
+use Rattle.permit.specs.Permission.{mayRead}
 use Rattle.chip.specs.Slices.{rowAt}
 use Rattle.chip.specs.declared.state.State.{State}
 use Rattle.access.specs.Judging.{raw, ecc, noValue, callRungs}

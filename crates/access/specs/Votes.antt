@@ -4,12 +4,12 @@ use mathlib.Core.Bool.{not, _||_}
 use mathlib.Core.List.{List, [], _∷_, _++_}
 use lib.Dec.{eqb, ltb}
 use lib.ListN.{take, drop, replicate}
-use Rattle.row.specs.Answers.{told, answered}
-use Rattle.row.specs.Rungs.{Rung, _when_, firstOf}
-use Rattle.row.specs.declared.answer.Answer.{Answer}
+use Rattle.answer.specs.Answers.{told, answered}
+use Rattle.answer.specs.Rungs.{Rung, _when_, firstOf}
+use Rattle.answer.specs.declared.answers.Answer.{Answer}
 use Rattle.vote.specs.Voting.{threshold, vote}
 use Rattle.chip.specs.Callers.{noCaller}
-use Rattle.chip.specs.Permission.{mayRead}
+use Rattle.permit.specs.Permission.{mayRead}
 use Rattle.chip.specs.Slices.{notWhole}
 use Rattle.chip.specs.declared.state.State.{State}
 use Rattle.access.specs.Judging.{rowRungs}

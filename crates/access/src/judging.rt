@@ -1,13 +1,13 @@
 // What a call on rows is refused for before a row is used (document 01, "The numbers we answer with").
 ghost use mathlib.Core.Path.{_≡_};
-ghost use Rattle.row.specs.Rungs.{firstOf};
+ghost use Rattle.answer.specs.Rungs.{firstOf};
 ghost use Rattle.access.specs.Judging as spec;
 use chip::callers::LAST_CALLER;
-use chip::keys::hidden;
 use chip::pages::Page;
 use chip::slices::MOST_HELD;
 use chip::slices::row_at;
 use chip::state::State;
+use permit::keys::hidden;
 
 // The number of a row that may or may not be used: 6, 7, 3, or 0.
 pub fn row_number(rows: &[u32], state: State, may: bool, row: u32) -> u32

@@ -1,19 +1,19 @@
 // The reads of one row: raw and ECC (document 01).
 ghost use mathlib.Core.Path.{_≡_};
-ghost use Rattle.row.specs.Answers.{answered, told as toldOf};
-ghost use Rattle.row.specs.Rungs.{firstOf};
-ghost use Rattle.chip.specs.Permission.{mayRead};
+ghost use Rattle.answer.specs.Answers.{answered, told as toldOf};
+ghost use Rattle.answer.specs.Rungs.{firstOf};
+ghost use Rattle.permit.specs.Permission.{mayRead};
 ghost use Rattle.chip.specs.Slices.{rowAt};
 ghost use Rattle.access.specs.Judging.{noValue, callRungs};
 ghost use Rattle.access.specs.Reads as spec;
 use crate::judging::call_number;
-use chip::permission::may_read;
+use answer::answers::Answer;
+use answer::answers::refused;
+use answer::answers::told;
 use chip::slices::row_at;
 use chip::state::State;
-use row::answer::Answer;
-use row::answer::refused;
-use row::answer::told;
-use row::reading::read_row;
+use decode::reading::read_row;
+use permit::permission::may_read;
 
 // What a row holds, to be read as it is. `coded` says whether it is then read by ECC, which no lock row is.
 fn readable(rows: &[u32], state: State, caller: u32, row: u32, coded: bool) -> Answer

@@ -2,9 +2,9 @@
 use Prim.Native.Nat.{ℕ}
 use mathlib.Core.List.{List}
 use lib.Dec.{eqb}
-use Rattle.row.specs.Choice.{if_then_else_}
+use Rattle.answer.specs.Choice.{if_then_else_}
 use Rattle.chip.specs.States.{zeros}
-use Rattle.latch.specs.Calls.{enterKey}
+use Rattle.lock.specs.Calls.{enterKey}
 use Rattle.latch.specs.Resetting.{reset}
 use Rattle.board.specs.declared.begin.Begun.{Begun}
 use Rattle.board.specs.declared.begin.Start.the-variants.{Ready, Ended}

@@ -3,15 +3,15 @@ ghost use mathlib.Core.Path.{_≡_};
 ghost use Rattle.board.specs.Begins as spec;
 use crate::reset_refusals;
 use chip::callers::SECURE;
-use chip::keys::matches;
 use chip::state::State;
 use console::ended;
 use console::files;
 use console::options::Words;
 use console::usage;
 use console::word;
-use latch::calls::enter_key;
 use latch::resetting::reset;
+use lock::calls::enter_key;
+use permit::keys::matches;
 use screen::print;
 
 // Whether there is a chip to go on with. Where there is none, the command has ended.

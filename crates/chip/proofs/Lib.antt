@@ -1,4 +1,3 @@
 pub mod Lists
 pub mod Orders
-pub mod Sharing
 pub mod PageBits

@@ -4,5 +4,3 @@ pub mod Pages
 pub mod States
 pub mod Tallies
 pub mod Callers
-pub mod Keys
-pub mod Permission

@@ -2,7 +2,7 @@
 use Prim.Native.Nat.{ℕ, _+_, _-_, _*_, _/_}
 use mathlib.Core.Bool.{Bool}
 use lib.Dec.{ltb, leb}
-use Rattle.row.specs.Choice.{if_then_else_}
+use Rattle.answer.specs.Choice.{if_then_else_}
 
 -- page n is rows 64n to 64n+63
 abbrev pub firstRow : ℕ → ℕ

@@ -4,8 +4,8 @@ use mathlib.Core.Bool.{Bool, false}
 use mathlib.Core.List.{List}
 use lib.ListN.{getD, replicate}
 use lib.Dec.{eqb}
-use Rattle.row.specs.Choice.{if_then_else_}
-use Rattle.row.specs.Answers.{refused}
+use Rattle.answer.specs.Choice.{if_then_else_}
+use Rattle.answer.specs.Answers.{refused}
 use Rattle.chip.specs.declared.state.Key.{Key}
 use Rattle.chip.specs.declared.state.State.{State}
 use Rattle.chip.specs.declared.state.Outcome.{Outcome}

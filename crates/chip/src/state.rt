@@ -2,8 +2,8 @@
 ghost use mathlib.Core.Path.{_≡_};
 ghost use Rattle.chip.specs.States as spec;
 use crate::pages::Page;
-use row::answer::Answer;
-use row::answer::refused;
+use answer::answers::Answer;
+use answer::answers::refused;
 
 // A level, a key index, a flag and a tally of each page; the words of a key.
 pub type Levels = [u8; 64];

@@ -3,7 +3,7 @@ use Prim.Native.Nat.{ℕ, _≤_}
 use mathlib.Core.List.{List}
 use mathlib.Core.Bool.{Bool, true, false}
 use lib.Dec.{eqb}
-use Rattle.row.specs.Choice.{if_then_else_}
+use Rattle.answer.specs.Choice.{if_then_else_}
 use Rattle.console.specs.declared.options.Words.{Words}
 use Rattle.console.specs.declared.takes.Takes.{Takes}
 use Rattle.console.specs.declared.usage.Given.{Given}

@@ -8,11 +8,11 @@ use native.Mathlib.Omega.{arith}
 use borrow.Author.Tests.{eqb-true, eq-eqb}
 use lib.Dec.{eqb}
 use lib.ListN.{length}
-use Rattle.row.specs.Rungs.{firstOf}
-use Rattle.chip.specs.Permission.{mayWrite}
+use Rattle.answer.specs.Rungs.{firstOf}
+use Rattle.permit.specs.Permission.{mayWrite}
 use Rattle.chip.specs.declared.state.State.{State}
 use Rattle.latch.specs.Resetting.{allInRange}
-use Rattle.access.specs.Burning.{burnt}
+use Rattle.burn.specs.Burning.{burnt}
 use Rattle.access.proofs.Passing.{whole}
 use Rattle.form.specs.Entries.{countOf, entryAt, entriesFrom, entriesOf}
 use Rattle.form.specs.Faults.{faultNumber, orderFault, orderFaults, faultOf}
@@ -20,10 +20,10 @@ use Rattle.form.specs.declared.entries.Entry.{Entry}
 use Rattle.form.specs.declared.faults.Fault.the-variants.{Sound}
 use Rattle.job.specs.Burning.{Progress, allWritten, allPulses, allGained}
 use Rattle.job.specs.Jobs.{carriedOut, runJob}
-use Rattle.job.specs.Verdicts.{entryRungs, allRungs, verdictOf}
-use Rattle.job.specs.declared.verdicts.Verdict.{Verdict}
+use Rattle.judge.specs.Verdicts.{entryRungs, allRungs, verdictOf}
+use Rattle.judge.specs.declared.verdicts.Verdict.{Verdict}
 use Rattle.form.proofs.Faulty.{both-sound, order-kept, order-sound}
-use Rattle.job.proofs.Upward.{entry-next, entry-none}
+use Rattle.judge.proofs.Upward.{entry-next, entry-none}
 use Rattle.job.proofs.Whole.{finished, accepted}
 use Rattle.cuts.specs.Cuts.{Keyed, ready, Bytes, acceptedOn}
 use Rattle.laws.proofs.Latches.{reset-passed}

@@ -3,14 +3,14 @@
 use mathlib.Core.List.{List, [], _∷_}
 use mathlib.Core.Path.{_≡_, refl}
 use Prim.Native.Nat.{ℕ, _+_}
-use Rattle.chip.specs.Keys.{matches, keyLevel}
+use Rattle.permit.specs.Keys.{matches, keyLevel}
 use Rattle.chip.specs.Pages.{keyPage}
-use Rattle.chip.specs.Permission.{mayWrite}
+use Rattle.permit.specs.Permission.{mayWrite}
 use Rattle.chip.specs.States.{withTallies}
 use Rattle.chip.specs.declared.state.State.{State}
 use Rattle.form.specs.Entries.{entriesOf}
 use Rattle.form.specs.declared.entries.Entry.{Entry}
-use Rattle.job.specs.Verdicts.{allRungs, verdictOf}
+use Rattle.judge.specs.Verdicts.{allRungs, verdictOf}
 
 -- the caller may write the same rows
 abbrev pub AgreeToWrite : ℕ → State → State → Type 0

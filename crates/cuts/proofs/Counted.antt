@@ -13,22 +13,22 @@ use lib.Seq.{set-getD}
 use Rattle.row.specs.Upward.{burntUpward}
 use Rattle.row.specs.Writing.{pulses, eccWritten, rawWritten}
 use Rattle.row.specs.declared.writing.Written.{Written}
-use Rattle.row.proofs.Choices.{both-ways}
-use Rattle.row.proofs.Ladders.{passed}
+use Rattle.answer.proofs.Choices.{both-ways}
+use Rattle.answer.proofs.Ladders.{passed}
 use Rattle.chip.specs.Pages.{pageOf}
-use Rattle.chip.specs.Permission.{mayWrite}
+use Rattle.permit.specs.Permission.{mayWrite}
 use Rattle.chip.specs.Slices.{rowAt, notWhole}
 use Rattle.chip.specs.Tallies.{Gain, _gains_, withGains}
 use Rattle.chip.specs.declared.state.State.{State}
-use Rattle.access.specs.Burning.{Left, oneRow}
+use Rattle.burn.specs.Burning.{Left, oneRow}
 use Rattle.access.specs.Judging.{raw, callRungs}
-use Rattle.access.specs.Writes.{writeRawNumber, writeEccNumber, writeRaw, writeEcc}
+use Rattle.burn.specs.Writes.{writeRawNumber, writeEccNumber, writeRaw, writeEcc}
 use Rattle.access.proofs.Passing.{whole, call-passed}
 use Rattle.form.specs.Entries.{entryAt, entriesFrom, entriesOf}
 use Rattle.form.specs.declared.entries.Entry.{Entry}
 use Rattle.job.specs.Burning.{Progress, writtenOver, withEntry, cutGained, rehearsed}
 use Rattle.job.specs.Jobs.{runJob, rehearse}
-use Rattle.job.specs.Verdicts.{verdictOf}
+use Rattle.judge.specs.Verdicts.{verdictOf}
 use Rattle.form.proofs.Faulty.{order-sound}
 use Rattle.job.proofs.Whole.{accepted, whole-job}
 use Rattle.laws.specs.Writes.{In}

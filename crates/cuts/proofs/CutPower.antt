@@ -6,13 +6,13 @@ use Prim.Native.Nat.{ℕ, _+_}
 use lib.ListN.{length}
 use Rattle.chip.specs.declared.state.State.{State}
 use Rattle.latch.specs.Resetting.{resetNumber}
-use Rattle.access.specs.Burning.{Left}
+use Rattle.burn.specs.Burning.{Left}
 use Rattle.form.specs.Entries.{entriesOf}
 use Rattle.form.specs.declared.entries.Entry.{Entry}
 use Rattle.job.specs.Burning.{writtenOver, withEntry, allWritten}
 use Rattle.job.specs.Jobs.{runJob}
-use Rattle.job.specs.Verdicts.{verdictOf}
-use Rattle.job.specs.declared.verdicts.Verdict.{Verdict}
+use Rattle.judge.specs.Verdicts.{verdictOf}
+use Rattle.judge.specs.declared.verdicts.Verdict.{Verdict}
 use Rattle.laws.specs.Votes.{EachIn}
 use Rattle.cuts.specs.Cuts.{ready, CutOf, Cuts, CutPower}
 use Rattle.laws.specs.Writes.{newlySet}

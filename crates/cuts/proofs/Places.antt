@@ -11,13 +11,13 @@ use native.Mathlib.Omega.{arith}
 use borrow.Author.Tests.{eqb-true, eqb-false, ltb-false}
 use lib.Dec.{eqb}
 use lib.Pow.{pow-pos}
-use Rattle.row.specs.Choice.{if_then_else_}
+use Rattle.answer.specs.Choice.{if_then_else_}
 use Rattle.row.specs.Code.{setBits}
-use Rattle.row.specs.Reading.{dataOf}
-use Rattle.row.specs.Rungs.{firstOf}
+use Rattle.decode.specs.Reading.{dataOf}
+use Rattle.answer.specs.Rungs.{firstOf}
 use Rattle.row.specs.Writing.{eccWritten, neitherFits}
-use Rattle.row.proofs.Ladders.{nine}
-use Rattle.chip.specs.Permission.{mayWrite}
+use Rattle.row.proofs.Unfit.{nine}
+use Rattle.permit.specs.Permission.{mayWrite}
 use Rattle.chip.specs.Slices.{rowAt, notWhole, tooLarge}
 use Rattle.chip.specs.declared.state.State.{State}
 use Rattle.form.specs.Entries.{countOf, entryAt, entriesFrom, entriesOf}
@@ -25,9 +25,9 @@ use Rattle.form.specs.Faults.{malformed, outOfOrder}
 use Rattle.form.specs.declared.entries.Entry.{Entry}
 use Rattle.job.specs.Burning.{Progress, rehearsed}
 use Rattle.job.specs.Jobs.{carriedOut, runJob, rehearse}
-use Rattle.job.specs.Verdicts.{unfit, entryRungs, allRungs, verdict, verdictOf}
-use Rattle.job.specs.declared.verdicts.Verdict.{Verdict}
-use Rattle.job.proofs.Upward.{entry-stops, entry-next}
+use Rattle.judge.specs.Verdicts.{unfit, entryRungs, allRungs, verdict, verdictOf}
+use Rattle.judge.specs.declared.verdicts.Verdict.{Verdict}
+use Rattle.judge.proofs.Upward.{entry-stops, entry-next}
 use Rattle.job.proofs.Whole.{finished}
 use Rattle.laws.specs.Calls.{perform}
 use Rattle.cuts.specs.Jobs.{RunsJob, NamesEntry, PlaceRefused, OneBitNeverNineInJobs}

@@ -8,17 +8,17 @@ use lib.Dec.{ltb}
 use lib.ListN.{length}
 use Rattle.row.specs.Writing.{pulses, eccWritten, rawWritten}
 use Rattle.row.specs.declared.writing.Written.{Written}
-use Rattle.chip.specs.Permission.{mayWrite}
+use Rattle.permit.specs.Permission.{mayWrite}
 use Rattle.chip.specs.Slices.{rowAt}
 use Rattle.chip.specs.declared.state.State.{State}
-use Rattle.access.specs.Burning.{Left, oneRow}
+use Rattle.burn.specs.Burning.{Left, oneRow}
 use Rattle.access.specs.Judging.{raw}
-use Rattle.access.specs.Writes.{writeRawNumber, writeEccNumber, writeRaw, writeEcc}
+use Rattle.burn.specs.Writes.{writeRawNumber, writeEccNumber, writeRaw, writeEcc}
 use Rattle.access.proofs.Passing.{whole, call-passed}
 use Rattle.form.specs.Entries.{entriesOf}
 use Rattle.job.specs.Burning.{rehearsed}
 use Rattle.job.specs.Jobs.{runJob, rehearse}
-use Rattle.job.specs.Verdicts.{verdictOf}
+use Rattle.judge.specs.Verdicts.{verdictOf}
 use Rattle.form.proofs.Faulty.{order-sound}
 use Rattle.job.proofs.Whole.{accepted, whole-job}
 use Rattle.laws.specs.Calls.{perform}

@@ -9,7 +9,7 @@ use lib.Dec.{eqb}
 use Rattle.chip.specs.Slices.{rowAt}
 use Rattle.chip.specs.Pages.{lowLockRow, highLockRow}
 use Rattle.chip.specs.declared.state.State.{State}
-use Rattle.latch.specs.Calls.{enterNumber, enterKey}
+use Rattle.lock.specs.Calls.{enterNumber, enterKey}
 use Rattle.latch.specs.Resetting.{latched, resetNumber, reset}
 use Rattle.laws.proofs.Latches.{keysByReading, reset-state}
 use Rattle.cuts.specs.Cuts.{Keyed, noKeyEntered, keyEntered, ready}

@@ -21,7 +21,7 @@ use Rattle.form.specs.Entries.{entriesOf}
 use Rattle.form.specs.declared.entries.Entry.{Entry}
 use Rattle.job.specs.Burning.{Progress, writtenOver, withEntry, rehearsed}
 use Rattle.job.specs.Jobs.{rehearse}
-use Rattle.job.specs.Verdicts.{verdictOf}
+use Rattle.judge.specs.Verdicts.{verdictOf}
 use Rattle.row.proofs.Lowest.{lowest-masked}
 use Rattle.laws.specs.Writes.{In}
 use Rattle.cuts.specs.Cuts.{ready, CutOf, RehearsalCuts}

@@ -8,15 +8,15 @@ use native.Mathlib.Omega.{arith}
 use borrow.Author.Tests.{ltb-false, le-ltb}
 use lib.ListN.{length, set, length-set}
 use lib.Seq.{getD-set-same, getD-set-other}
-use Rattle.row.specs.Rungs.{firstOf}
+use Rattle.answer.specs.Rungs.{firstOf}
 use Rattle.chip.specs.Slices.{rowAt, tooLarge}
-use Rattle.chip.specs.Permission.{mayWrite}
+use Rattle.permit.specs.Permission.{mayWrite}
 use Rattle.chip.specs.declared.state.State.{State}
-use Rattle.row.proofs.Ladders.{passed}
+use Rattle.answer.proofs.Ladders.{passed}
 use Rattle.form.specs.declared.entries.Entry.{Entry}
 use Rattle.job.specs.Burning.{writtenOver, withEntry, allWritten, allPulses}
-use Rattle.job.specs.Verdicts.{entryRungs}
-use Rattle.job.proofs.Fitting.{entry-nine}
+use Rattle.judge.specs.Verdicts.{entryRungs}
+use Rattle.judge.proofs.Fitting.{entry-nine}
 use Rattle.laws.specs.Votes.{EachIn}
 use Rattle.laws.specs.Writes.{newlySet}
 use Rattle.cuts.proofs.Agreement.{AgreeToWrite}

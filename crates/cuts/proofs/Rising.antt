@@ -16,7 +16,7 @@ use Rattle.form.specs.declared.entries.Entry.{Entry}
 use Rattle.form.specs.declared.faults.Fault.the-variants.{Sound}
 use Rattle.job.specs.Burning.{Progress, writtenOver, withEntry, rehearsed}
 use Rattle.form.proofs.Faulty.{both-sound, order-kept}
-use Rattle.row.proofs.Choices.{both-ways}
+use Rattle.answer.proofs.Choices.{both-ways}
 
 -- rows rise from the least, below 0xf40
 pub data Rising : ℕ → List Entry → Type 0 where

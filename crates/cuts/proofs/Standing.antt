@@ -13,16 +13,16 @@ use lib.Seq.{getD-set-same, getD-set-other}
 use Rattle.row.specs.Upward.{burntUpward}
 use Rattle.row.specs.Writing.{pulses}
 use Rattle.row.specs.declared.writing.Written.{Written}
-use Rattle.row.proofs.Choices.{both-ways}
+use Rattle.answer.proofs.Choices.{both-ways}
 use Rattle.chip.specs.Slices.{rowAt}
 use Rattle.chip.specs.declared.state.State.{State}
-use Rattle.access.specs.Burning.{Left}
+use Rattle.burn.specs.Burning.{Left}
 use Rattle.access.proofs.Passing.{whole}
 use Rattle.form.specs.Entries.{countOf, entryAt, entriesFrom, entriesOf}
 use Rattle.form.specs.declared.entries.Entry.{Entry}
 use Rattle.job.specs.Burning.{Progress, writtenOver, withEntry, rehearsed}
 use Rattle.job.specs.Jobs.{runJob, rehearse}
-use Rattle.job.specs.Verdicts.{entryWritten, verdictOf}
+use Rattle.judge.specs.Verdicts.{entryWritten, verdictOf}
 use Rattle.form.proofs.Faulty.{order-sound}
 use Rattle.job.proofs.Whole.{accepted, whole-job}
 use Rattle.laws.specs.Calls.{perform}

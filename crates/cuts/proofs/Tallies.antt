@@ -7,12 +7,12 @@ use mathlib.Core.Path.{_≡_, refl, sym, ap, _∙_, subst}
 use Prim.Native.Nat.{ℕ}
 use borrow.Author.Tests.{eqb-true, eqb-false}
 use lib.Dec.{eqb, leb}
-use Rattle.row.proofs.Choices.{both-ways}
+use Rattle.answer.proofs.Choices.{both-ways}
 use Rattle.chip.specs.Callers.{shownLevel}
 use Rattle.chip.specs.Tallies.{talliesOf, withGains}
 use Rattle.chip.specs.declared.state.State.{State}
 use Rattle.chip.specs.declared.state.Outcome.{Outcome}
-use Rattle.latch.specs.Calls.{advanceNumber, advance, enterNumber, enterKey}
+use Rattle.lock.specs.Calls.{advanceNumber, advance, enterNumber, enterKey}
 use Rattle.latch.specs.Resetting.{latched, resetNumber, reset}
 use Rattle.laws.specs.Calls.{Chip, Call, aReset, aRawRead, anEccRead, aVote, aRawWrite, anEccWrite, anAdvance, aShow, aKey, aJob, aRehearsal, perform, performAll}
 use Rattle.cuts.specs.Cuts.{Keyed, noKeyEntered, keyEntered, ready}

@@ -9,27 +9,28 @@ use native.Mathlib.Omega.{arith}
 use borrow.Author.Tests.{le-ltb, lt-leb, eq-eqb, eqb-true}
 use lib.Dec.{eqb, ltb}
 use lib.ListN.{length, set, length-set}
-use Rattle.row.specs.Answers.{spent}
-use Rattle.row.specs.Choice.{if_then_else_}
-use Rattle.row.specs.Reading.{dataOf}
-use Rattle.row.specs.Rungs.{_when_, firstOf, orElse}
+use Rattle.answer.specs.Answers.{spent}
+use Rattle.answer.specs.Choice.{if_then_else_}
+use Rattle.decode.specs.Reading.{dataOf}
+use Rattle.answer.specs.Rungs.{_when_, firstOf, orElse}
 use Rattle.row.specs.Writing.{eccWritten, rawWritten, neitherFits}
 use Rattle.row.specs.declared.writing.Written.{Written}
-use Rattle.row.proofs.Ladders.{refusing, then-rungs, nine}
-use Rattle.chip.specs.Keys.{hidden}
-use Rattle.chip.specs.Permission.{mayWrite}
+use Rattle.answer.proofs.Ladders.{refusing, then-rungs}
+use Rattle.row.proofs.Unfit.{nine}
+use Rattle.permit.specs.Keys.{hidden}
+use Rattle.permit.specs.Permission.{mayWrite}
 use Rattle.chip.specs.Slices.{rowAt}
 use Rattle.chip.specs.States.{withTallies}
 use Rattle.chip.specs.Tallies.{Gain, _gains_, withGains}
 use Rattle.chip.specs.declared.state.State.{State}
 use Rattle.access.specs.Judging.{raw, ecc, rowRungs, callRungs}
-use Rattle.access.specs.Writes.{writeRawNumber, writeEccNumber, writeRaw, writeEcc}
+use Rattle.burn.specs.Writes.{writeRawNumber, writeEccNumber, writeRaw, writeEcc}
 use Rattle.form.specs.Entries.{entriesOf}
 use Rattle.form.specs.Faults.{formFault, formFaults}
 use Rattle.form.specs.declared.entries.Entry.{Entry}
 use Rattle.form.specs.declared.faults.Fault.the-variants.{Sound}
 use Rattle.job.specs.Burning.{writtenOver, withEntry, allWritten, allPulses, allGained}
-use Rattle.job.specs.Verdicts.{entryWritten}
+use Rattle.judge.specs.Verdicts.{entryWritten}
 use Rattle.form.proofs.Faulty.{both-sound, forms-sound, form-kept}
 use Rattle.laws.specs.Calls.{Chip, Result, aRawWrite, anEccWrite, perform}
 use Rattle.cuts.specs.Jobs.{writeOf, EachDone, writesOf, EachInTurn}

@@ -5,7 +5,7 @@ use mathlib.Core.Path.{_≡_}
 use lib.ListN.{getD, set}
 use Rattle.chip.specs.Slices.{rowAt}
 use Rattle.chip.specs.declared.state.State.{State}
-use Rattle.latch.specs.Calls.{enterKey}
+use Rattle.lock.specs.Calls.{enterKey}
 use Rattle.latch.specs.Resetting.{resetNumber, reset}
 use Rattle.form.specs.Entries.{entriesOf}
 use Rattle.form.specs.declared.entries.Entry.{Entry}

@@ -4,16 +4,16 @@ use mathlib.Core.List.{List, [], _∷_}
 use mathlib.Core.Logic.{_⊎_}
 use mathlib.Core.Path.{_≡_}
 use lib.Dec.{eqb}
-use Rattle.row.specs.Choice.{if_then_else_}
+use Rattle.answer.specs.Choice.{if_then_else_}
 use Rattle.row.specs.Code.{setBits}
-use Rattle.row.specs.Rungs.{firstOf}
-use Rattle.row.specs.declared.answer.Answer.{Answer}
-use Rattle.chip.specs.Permission.{mayWrite}
+use Rattle.answer.specs.Rungs.{firstOf}
+use Rattle.answer.specs.declared.answers.Answer.{Answer}
+use Rattle.permit.specs.Permission.{mayWrite}
 use Rattle.chip.specs.Slices.{rowAt}
 use Rattle.form.specs.Entries.{countOf, entryAt, entriesOf}
 use Rattle.form.specs.declared.entries.Entry.{Entry}
 use Rattle.job.specs.Burning.{writtenOver}
-use Rattle.job.specs.Verdicts.{entryRungs}
+use Rattle.judge.specs.Verdicts.{entryRungs}
 use Rattle.laws.specs.Calls.{Chip, Call, aRawWrite, anEccWrite, aJob, aRehearsal, perform}
 use Rattle.cuts.specs.Cuts.{Bytes}
 use Rattle.laws.specs.Writes.{In}

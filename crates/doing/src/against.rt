@@ -1,7 +1,7 @@
 // What stands against the entry that a job is refused for.
+use answer::answers::Answer;
 use chip::slices::row_at;
 use form::entries::entry_at;
-use row::answer::Answer;
 use row::coding::inverted;
 use row::coding::plain;
 use screen::print;

@@ -1,11 +1,11 @@
 // What a rehearsal did: a line for each entry, with the old and the new bits of its row.
+use answer::answers::Polarity;
 use chip::slices::row_at;
+use decode::reading::read_row;
 use form::entries::Entry;
 use form::entries::count_of;
 use form::entries::entry_at;
-use job::verdicts::entry_written;
-use row::answer::Polarity;
-use row::reading::read_row;
+use judge::verdicts::entry_written;
 use row::writing::pulses;
 use screen::print;
 

@@ -1,6 +1,7 @@
 // `otp rehearse`: a job judged and rehearsed, what it changes row by row, and what each page gains (document 01, "Jobs").
 use crate::against;
 use crate::changes;
+use answer::answers::Answer;
 use board::begin::Start;
 use board::begin::begin;
 use board::begin::finish;
@@ -21,7 +22,6 @@ use form::entries::count_of;
 use form::entries::entry_at;
 use job::jobs::MOST_PULSES;
 use job::jobs::rehearse;
-use row::answer::Answer;
 use screen::print;
 use text::numbers::Number;
 use text::words::part;

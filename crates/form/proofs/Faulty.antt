@@ -9,8 +9,8 @@ use native.Mathlib.Omega.{arith}
 use borrow.Author.Tests.{eq-eqb, ne-eqb, eqb-false, leb-false, ltb-false}
 use lib.Dec.{eqb, leb, ltb}
 use lib.ListN.{length}
-use Rattle.row.specs.Choice.{if_then_else_}
-use Rattle.row.proofs.Ladders.{never-zero}
+use Rattle.answer.specs.Choice.{if_then_else_}
+use Rattle.answer.proofs.Ladders.{never-zero}
 use Rattle.form.specs.Entries.{versionOf, countOf, entryAt, entriesFrom, entriesOf}
 use Rattle.form.specs.Faults.{faultNumber, _otherwise_, marked, headFault, formFault, formFaults, orderFault, orderFaults, faultOf}
 use Rattle.form.specs.declared.entries.Entry.{Entry}

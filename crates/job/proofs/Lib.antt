@@ -1,4 +1,2 @@
 pub mod Ahead
-pub mod Fitting
-pub mod Upward
 pub mod Whole

@@ -10,13 +10,13 @@ use borrow.Author.Tests.{le-leb, eqb-true}
 use lib.Bits.{bitAnd}
 use lib.Dec.{eqb}
 use lib.ListN.{length}
-use Rattle.row.specs.Choice.{if_then_else_}
+use Rattle.answer.specs.Choice.{if_then_else_}
 use Rattle.row.specs.Code.{setBits, flipped, plain, inverted}
-use Rattle.row.specs.Reading.{dataOf}
+use Rattle.decode.specs.Reading.{dataOf}
 use Rattle.row.specs.Writing.{fits, pulses, burntOver, leftAlone, eccWritten, rawWritten}
 use Rattle.row.proofs.Counts.{ones-le}
-use Rattle.row.specs.Rungs.{firstOf}
-use Rattle.row.proofs.Ladders.{passed}
+use Rattle.answer.specs.Rungs.{firstOf}
+use Rattle.answer.proofs.Ladders.{passed}
 use Rattle.chip.specs.Slices.{notWhole}
 use Rattle.chip.specs.declared.state.State.{State}
 use Rattle.form.specs.Entries.{countOf, entriesFrom, entriesOf}
@@ -25,7 +25,7 @@ use Rattle.form.specs.declared.entries.Entry.{Entry}
 use Rattle.form.specs.declared.faults.Fault.the-variants.{Sound}
 use Rattle.job.specs.Burning.{Progress, writtenOver, withEntry, allWritten, allPulses, allGained, rehearsed}
 use Rattle.job.specs.Jobs.{carriedOut, runJob, rehearse}
-use Rattle.job.specs.Verdicts.{entryWritten, allRungs, verdictOf}
+use Rattle.judge.specs.Verdicts.{entryWritten, allRungs, verdictOf}
 use Rattle.form.proofs.Faulty.{no-fault, both-sound, head-count}
 
 -- ---- a row takes at most 24 pulses

@@ -3,13 +3,13 @@ use Prim.Native.Nat.{ℕ, _+_, _-_}
 use mathlib.Core.List.{List, [], _∷_}
 use lib.Dec.{leb}
 use lib.ListN.{set}
-use Rattle.row.specs.Choice.{if_then_else_}
+use Rattle.answer.specs.Choice.{if_then_else_}
 use Rattle.row.specs.Upward.{burntUpward}
 use Rattle.row.specs.declared.writing.Written.{Written}
 use Rattle.chip.specs.Slices.{rowAt}
 use Rattle.chip.specs.Tallies.{Gain, _gains_}
 use Rattle.form.specs.declared.entries.Entry.{Entry}
-use Rattle.job.specs.Verdicts.{entryWritten}
+use Rattle.judge.specs.Verdicts.{entryWritten}
 
 -- what writing an entry over its row gives
 abbrev pub writtenOver : List ℕ → Entry → Written

@@ -2,13 +2,13 @@
 use Prim.Native.Nat.{ℕ}
 use mathlib.Core.List.{List}
 use lib.Dec.{eqb}
-use Rattle.row.specs.Choice.{if_then_else_}
+use Rattle.answer.specs.Choice.{if_then_else_}
 use Rattle.chip.specs.declared.state.State.{State}
-use Rattle.access.specs.Burning.{Left, burnt, kept}
+use Rattle.burn.specs.Burning.{Left, burnt, kept}
 use Rattle.form.specs.Entries.{countOf, entriesOf}
 use Rattle.job.specs.Burning.{Progress, allWritten, allPulses, allGained, rehearsed}
-use Rattle.job.specs.Verdicts.{verdictOf}
-use Rattle.job.specs.declared.verdicts.Verdict.{Verdict}
+use Rattle.judge.specs.Verdicts.{verdictOf}
+use Rattle.judge.specs.declared.verdicts.Verdict.{Verdict}
 
 -- number 0: its rows are burnt; any other is a refusal, with its place
 abbrev pub carriedOut : Verdict → List ℕ → State → Progress → Left

@@ -4,11 +4,11 @@ ghost use Prim.Native.Nat.{_-_};
 ghost use Rattle.chip.specs.Tallies.{withGains};
 ghost use Rattle.form.specs.Entries.{entriesFrom};
 ghost use Rattle.job.specs.Burning as spec;
-use crate::verdicts::entry_written;
-use access::burning::burn_row;
+use burn::burning::burn_row;
 use chip::slices::row_at;
 use chip::tallies::gain;
 use form::entries::entry_at;
+use judge::verdicts::entry_written;
 use row::upward::burnt_upward;
 
 // How far a rehearsal came: the pulses spent, and the leading entries whose bits all stand.

@@ -2,14 +2,14 @@
 ghost use mathlib.Core.Path.{_≡_};
 ghost use Rattle.job.specs.Jobs as spec;
 use crate::burning::rehearsed;
-use crate::verdicts::verdict_of;
-use access::burning::beside;
+use answer::answers::refused_at;
+use answer::answers::spent;
+use burn::burning::beside;
 use chip::state::Outcome;
 use chip::state::State;
 use form::entries::count_of;
 use form::faults::MOST_ENTRIES;
-use row::answer::refused_at;
-use row::answer::spent;
+use judge::verdicts::verdict_of;
 
 // The longest job burns all 24 bits of each of its rows.
 pub const MOST_PULSES: u32 = 24 * MOST_ENTRIES;

@@ -6,7 +6,7 @@ use mathlib.Core.List.{List}
 use Prim.Native.Nat.{ℕ, _+_}
 use native.Mathlib.Numerals.{add-one}
 use borrow.Author.Tests.{eq-eqb, ne-eqb}
-use Rattle.row.specs.Reading.{readRow}
+use Rattle.decode.specs.Reading.{readRow}
 use Rattle.chip.specs.Slices.{rowAt}
 use Rattle.latch.specs.Resetting.{allDecode}
 

@@ -1,4 +1,3 @@
 pub mod Decoding
-pub mod Ladders
 pub mod Majority
 pub mod Ranges

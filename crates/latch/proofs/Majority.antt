@@ -7,7 +7,7 @@ use native.Mathlib.Nat.{add-zero, mod-lt, mod-eq-of-lt, lt-of-lt-of-le}
 use lib.Bits.{bitAnd, bitOr, or-lt, and-lt}
 use lib.Dec.{leb, lit≤}
 use lib.Pow.{pow-pos, pow-mono}
-use Rattle.row.specs.Choice.{if_then_else_}
+use Rattle.answer.specs.Choice.{if_then_else_}
 use Rattle.row.specs.Code.{bitAt}
 use Rattle.row.proofs.Digits.{equal3}
 use Rattle.row.proofs.Places.{bit-and, bit-or, bit-lt}

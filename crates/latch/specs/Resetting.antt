@@ -3,10 +3,10 @@ use Prim.Native.Nat.{ℕ, zero, suc, _+_, _%_}
 use mathlib.Core.Bool.{Bool, true, not, _&&_}
 use mathlib.Core.List.{List, [], _∷_}
 use lib.Dec.{eqb, leb}
-use Rattle.row.specs.Answers.{done}
-use Rattle.row.specs.Reading.{readRow}
-use Rattle.row.specs.Rungs.{_when_, firstOf}
-use Rattle.chip.specs.Keys.{keyRow, validRow, noKey}
+use Rattle.answer.specs.Answers.{done}
+use Rattle.decode.specs.Reading.{readRow}
+use Rattle.answer.specs.Rungs.{_when_, firstOf}
+use Rattle.permit.specs.Keys.{keyRow, validRow, noKey}
 use Rattle.chip.specs.Lists.{listed}
 use Rattle.chip.specs.Pages.{lowLockRow, highLockRow}
 use Rattle.chip.specs.Slices.{rowAt, notWhole}

@@ -10,6 +10,7 @@ ghost use Rattle.latch.specs.Locks.{levelOf, secureField, nonsecureField
 ghost use Rattle.latch.specs.Resetting as spec;
 use crate::locks::level_of;
 use crate::locks::voted_byte;
+use answer::answers::done;
 use chip::pages::Page;
 use chip::slices::MOST_HELD;
 use chip::state::Flags;
@@ -20,9 +21,8 @@ use chip::state::Outcome;
 use chip::state::State;
 use chip::state::Tallies;
 use chip::state::refusal;
-use row::answer::done;
+use decode::reading::read_row;
 use row::coding::set_bits;
-use row::reading::read_row;
 
 // Whether no entry is above 16,777,215.
 pub fn all_in_range(rows: &[u32]) -> bool

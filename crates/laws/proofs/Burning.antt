@@ -7,18 +7,18 @@ use lib.Dec.{eqb, leb}
 use Rattle.chip.specs.Slices.{rowAt}
 use Rattle.chip.specs.States.{withTallies}
 use Rattle.chip.specs.declared.state.State.{State}
-use Rattle.access.specs.Burning.{Left}
-use Rattle.access.specs.Writes.{writeRawNumber, writeEccNumber, writeRaw, writeEcc}
+use Rattle.burn.specs.Burning.{Left}
+use Rattle.burn.specs.Writes.{writeRawNumber, writeEccNumber, writeRaw, writeEcc}
 use Rattle.form.specs.Entries.{entriesOf}
 use Rattle.form.specs.declared.entries.Entry.{Entry}
 use Rattle.job.specs.Burning.{Progress, writtenOver, withEntry, rehearsed}
 use Rattle.job.specs.Jobs.{runJob, rehearse}
-use Rattle.job.specs.Verdicts.{verdictOf}
+use Rattle.judge.specs.Verdicts.{verdictOf}
 use Rattle.job.proofs.Whole.{whole-job}
 use Rattle.laws.specs.Calls.{Chip, Call, aReset, aRawRead, anEccRead, aVote, aRawWrite, anEccWrite, anAdvance, aShow, aKey, aJob, aRehearsal, perform, performAll}
 use Rattle.laws.specs.Promises.{NoBitClears, Burns, BurningLatchesNothing}
 use Rattle.laws.specs.Votes.{EachIn}
-use Rattle.row.proofs.Choices.{both-ways}
+use Rattle.answer.proofs.Choices.{both-ways}
 use Rattle.laws.proofs.Between.{each-self, each-through, each-at, each-over}
 use Rattle.laws.proofs.Entries.{entry-keeps, burnt-over}
 use Rattle.laws.proofs.Writes.{keepsBits}

@@ -9,27 +9,28 @@ use borrow.Author.Tests.{eqb-true, eqb-false, eq-eqb, ltb-false}
 use lib.Dec.{eqb, ltb, lit≤}
 use lib.ListN.{length, set, length-set}
 use lib.Seq.{getD-set-same}
-use Rattle.row.specs.Choice.{if_then_else_}
-use Rattle.row.specs.Reading.{undecodable}
-use Rattle.row.specs.Rungs.{Rung, _when_, firstOf, orElse}
+use Rattle.answer.specs.Choice.{if_then_else_}
+use Rattle.decode.specs.Reading.{undecodable}
+use Rattle.answer.specs.Rungs.{Rung, _when_, firstOf, orElse}
 use Rattle.row.specs.Writing.{eccWritten, rawWritten, neitherFits}
-use Rattle.row.specs.declared.answer.Answer.{Answer}
+use Rattle.answer.specs.declared.answers.Answer.{Answer}
 use Rattle.row.specs.declared.writing.Written.{Written}
 use Rattle.chip.specs.Callers.{noCaller}
-use Rattle.chip.specs.Keys.{matches, keyLevel, hidden}
+use Rattle.permit.specs.Keys.{matches, keyLevel, hidden}
 use Rattle.chip.specs.Slices.{rowAt, notWhole, tooLarge}
 use Rattle.chip.specs.Pages.{isLockRow}
-use Rattle.chip.specs.Permission.{mayRead, mayWrite}
+use Rattle.permit.specs.Permission.{mayRead, mayWrite}
 use Rattle.chip.specs.declared.state.State.{State}
-use Rattle.access.specs.Burning.{Left, oneRow}
+use Rattle.burn.specs.Burning.{Left, oneRow}
 use Rattle.access.specs.Judging.{ecc, noValue, rowRungs, callRungs}
 use Rattle.access.specs.Reads.{readEccNumber, readEcc}
-use Rattle.access.specs.Writes.{writeRawNumber, writeEccNumber, writeRaw, writeEcc}
+use Rattle.burn.specs.Writes.{writeRawNumber, writeEccNumber, writeRaw, writeEcc}
 use Rattle.access.proofs.Passing.{call-passed, call-again}
 use Rattle.laws.specs.Promises.{WriteReadsBack, RawAdds, WriterReadsBack, eccAllowed, NineOfCall, OneBitNeverNine}
 use Rattle.laws.specs.Reads.{Value}
-use Rattle.row.proofs.Ladders.{refusing, then-rungs, nine}
-use Rattle.row.proofs.Choices.{both-ways, own-number}
+use Rattle.answer.proofs.Ladders.{refusing, then-rungs}
+use Rattle.row.proofs.Unfit.{nine}
+use Rattle.answer.proofs.Choices.{both-ways, own-number}
 use Rattle.laws.proofs.Entries.{ecc-small}
 use Rattle.laws.proofs.Permits.{mayWriteMayRead}
 use Rattle.laws.proofs.Writes.{readsBack, nineExactly, oneBitFits}

@@ -9,13 +9,13 @@ use native.Mathlib.Nat.{le-trans, max-le, le-max-left, le-max-right}
 use native.Mathlib.Omega.{arith}
 use borrow.Author.Tests.{eq-eqb, le-ltb, le-leb, leb-true}
 use lib.Dec.{eqb, leb}
-use Rattle.row.specs.Rungs.{_when_, firstOf}
+use Rattle.answer.specs.Rungs.{_when_, firstOf}
 use Rattle.chip.specs.Pages.{isLockRow}
-use Rattle.chip.specs.Permission.{rowKeyLevel, callerLevel, mayRead, mayWrite}
+use Rattle.permit.specs.Permission.{rowKeyLevel, callerLevel, mayRead, mayWrite}
 use Rattle.chip.specs.declared.state.State.{State}
-use Rattle.latch.specs.Calls.{advance}
+use Rattle.lock.specs.Calls.{advance}
 use Rattle.laws.specs.Callers.{BootloaderExactly, BootloaderWithinSecure, BootloaderLevelsStay, SevenToBootloader, ShownToAll, PermissionStays, NumbersStay}
-use Rattle.row.proofs.Choices.{both-ways}
+use Rattle.answer.proofs.Choices.{both-ways}
 use Rattle.laws.proofs.Permits.{all-zero}
 use Rattle.laws.proofs.Locking.{advance-asked}
 use Rattle.laws.proofs.WithoutReset.{by-calls}

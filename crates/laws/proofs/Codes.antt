@@ -11,7 +11,7 @@ use lib.Dec.{leb, leb→le}
 use Rattle.row.specs.Code.{setBits, parity, masks, withCheck, withChecks, code}
 use Rattle.row.proofs.Codes.{code-linear, code-data}
 use Rattle.row.proofs.Counts.{ones-split, ones-low, at-few}
-use Rattle.row.proofs.Syndromes.{xor-none}
+use Rattle.decode.proofs.Syndromes.{xor-none}
 use Rattle.laws.specs.Reads.{Value, Linear, FourApart}
 
 pub linear : Linear

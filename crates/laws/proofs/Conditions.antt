@@ -11,17 +11,17 @@ use borrow.Author.Tests.{eqb-true, eqb-false, eq-eqb, not-true, not-false}
 use lib.Bits.{bitXor, xor-self}
 use lib.Dec.{T, eqb}
 use lib.Pow.{pow-pos}
-use Rattle.row.specs.Answers.{found}
-use Rattle.row.specs.Choice.{if_then_else_}
+use Rattle.answer.specs.Answers.{found}
+use Rattle.answer.specs.Choice.{if_then_else_}
 use Rattle.row.specs.Code.{bitAt, code}
-use Rattle.row.specs.Conditions.{conditionNumber, repairedBit, polarityNumber}
-use Rattle.row.specs.Reading.{flippedAt, bothSet, disagree, saidOf}
-use Rattle.row.specs.declared.answer.Answer.{Answer}
-use Rattle.row.specs.declared.answer.Condition.{Condition}
-use Rattle.row.specs.declared.answer.Condition.the-variants.{Clean, Repaired, FlagWorn, FlagWornRepaired}
-use Rattle.row.specs.declared.answer.Polarity.the-variants.{Plain, Inverted}
-use Rattle.row.proofs.Choices.{both-ways, made-of}
-use Rattle.row.proofs.Syndromes.{xor-cancel-left}
+use Rattle.answer.specs.Conditions.{conditionNumber, repairedBit, polarityNumber}
+use Rattle.decode.specs.Reading.{flippedAt, bothSet, disagree, saidOf}
+use Rattle.answer.specs.declared.answers.Answer.{Answer}
+use Rattle.answer.specs.declared.answers.Condition.{Condition}
+use Rattle.answer.specs.declared.answers.Condition.the-variants.{Clean, Repaired, FlagWorn, FlagWornRepaired}
+use Rattle.answer.specs.declared.answers.Polarity.the-variants.{Plain, Inverted}
+use Rattle.answer.proofs.Choices.{both-ways, made-of}
+use Rattle.decode.proofs.Syndromes.{xor-cancel-left}
 use Rattle.chip.specs.Slices.{rowAt}
 use Rattle.access.specs.Reads.{readEccNumber, readEcc}
 use Rattle.laws.specs.Calls.{perform}

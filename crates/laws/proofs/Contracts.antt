@@ -3,7 +3,7 @@
 use mathlib.Core.List.{List}
 use mathlib.Core.Path.{_≡_, refl, sym, ap₂, _∙_}
 use Prim.Native.Nat.{ℕ}
-use Rattle.row.specs.declared.answer.Answer.{Answer}
+use Rattle.answer.specs.declared.answers.Answer.{Answer}
 use Rattle.chip.specs.declared.state.Outcome.{Outcome}
 use Rattle.laws.specs.Calls.{Chip, Result, aReset, aRawRead, anEccRead, aVote, aRawWrite, anEccWrite, anAdvance, aShow, aKey, aJob, aRehearsal, perform}
 use Rattle.laws.specs.Contracts.{outcomeOf, Allows, NoRoom, PromisedIsAllowed}

@@ -8,14 +8,14 @@ use native.Mathlib.Omega.{arith}
 use lib.Bits.{or-lt, xor-lt}
 use lib.Dec.{eqb}
 use lib.Pow.{pow-pos}
-use Rattle.row.specs.Choice.{if_then_else_}
+use Rattle.answer.specs.Choice.{if_then_else_}
 use Rattle.row.specs.Code.{code}
-use Rattle.row.specs.Reading.{dataOf}
+use Rattle.decode.specs.Reading.{dataOf}
 use Rattle.row.specs.Writing.{pulses, eccWritten, rawWritten}
 use Rattle.row.specs.declared.writing.Written.{Written}
 use Rattle.row.proofs.Codes.{code-lt}
 use Rattle.form.specs.declared.entries.Entry.{Entry}
-use Rattle.job.specs.Verdicts.{entryWritten}
+use Rattle.judge.specs.Verdicts.{entryWritten}
 use Rattle.laws.specs.Reads.{Value}
 use Rattle.laws.specs.Writes.{In}
 use Rattle.row.specs.Upward.{burntUpward}

@@ -9,14 +9,14 @@ use native.Mathlib.Omega.{arith}
 use borrow.Author.Tests.{ne-eqb}
 use lib.Bits.{bitXor, xor-mod, xor-shr, xor-zero-r}
 use lib.Dec.{eqb, ltb, ltb→lt, lit≤}
-use Rattle.row.specs.Answers.{found, foundIn}
-use Rattle.row.specs.Choice.{if_then_else_}
+use Rattle.answer.specs.Answers.{found, foundIn}
+use Rattle.answer.specs.Choice.{if_then_else_}
 use Rattle.row.specs.Code.{flipped}
-use Rattle.row.specs.Reading.{upright, flippedAt, decoded, bothSet, disagree, flagWorn, readRow}
-use Rattle.row.specs.declared.answer.Condition.{Condition}
-use Rattle.row.specs.declared.answer.Polarity.the-variants.{Plain, Inverted}
+use Rattle.decode.specs.Reading.{upright, flippedAt, decoded, bothSet, disagree, flagWorn, readRow}
+use Rattle.answer.specs.declared.answers.Condition.{Condition}
+use Rattle.answer.specs.declared.answers.Polarity.the-variants.{Plain, Inverted}
 use Rattle.row.proofs.Digits.{zero-or-one, at-digits2, equal2}
-use Rattle.row.proofs.Syndromes.{xor-cancel}
+use Rattle.decode.proofs.Syndromes.{xor-cancel}
 use Rattle.laws.specs.Reads.{looked}
 
 -- ---- the bits that are looked at

@@ -8,8 +8,8 @@ use borrow.Author.Tests.{eqb-true, eqb-false}
 use lib.Dec.{eqb}
 use lib.ListN.{set}
 use lib.Seq.{getD-set-same, getD-set-other}
-use Rattle.row.specs.Reading.{flippedAt, decoded}
-use Rattle.row.specs.declared.answer.Answer.{Answer}
+use Rattle.decode.specs.Reading.{flippedAt, decoded}
+use Rattle.answer.specs.declared.answers.Answer.{Answer}
 use Rattle.chip.specs.Slices.{rowAt}
 use Rattle.laws.specs.Conditions.{ReadAlike, WornKeyLatches}
 use Rattle.laws.specs.Reads.{looked}

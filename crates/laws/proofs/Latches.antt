@@ -7,12 +7,12 @@ use Prim.Native.Nat.{ℕ, zero, suc, _+_, _≤_}
 use native.Mathlib.Omega.{arith}
 use borrow.Author.Tests.{eq-eqb, not-false}
 use lib.ListN.{length}
-use Rattle.chip.specs.Keys.{keyRow, validRow}
+use Rattle.permit.specs.Keys.{keyRow, validRow}
 use Rattle.chip.specs.Slices.{notWhole}
 use Rattle.chip.specs.Slices.{rowAt}
 use Rattle.chip.specs.declared.state.State.{State}
 use Rattle.latch.specs.Resetting.{allDecode, allInRange, wordOf, latched, resetNumber, reset}
-use Rattle.row.proofs.Ladders.{passed}
+use Rattle.answer.proofs.Ladders.{passed}
 use Rattle.access.proofs.Passing.{whole}
 use Rattle.laws.specs.Conditions.{ReadAlike, KeysByReading}
 

@@ -7,10 +7,10 @@ use Prim.Native.Nat.{ℕ, _+_, _-_, _*_, _/_, _≤_}
 use native.Mathlib.Omega.{arith}
 use borrow.Author.Tests.{le-ltb, le-leb, lt-leb, leb-true, leb-false}
 use lib.Dec.{leb}
-use Rattle.row.specs.Choice.{if_then_else_}
-use Rattle.chip.specs.Keys.{keyLevel}
+use Rattle.answer.specs.Choice.{if_then_else_}
+use Rattle.permit.specs.Keys.{keyLevel}
 use Rattle.chip.specs.Pages.{firstRow, lowLockRow, highLockRow, owner, keyPage}
-use Rattle.chip.specs.Permission.{mayRead, mayWrite}
+use Rattle.permit.specs.Permission.{mayRead, mayWrite}
 use Rattle.laws.specs.LockRows.{InWord, takenFrom, KeysOfLockRows, LevelsOfLockRows, PermissionOfLockRows, DataPagesKeepTheirs}
 
 -- ---- the pages of a lock row

@@ -16,10 +16,10 @@ use Rattle.chip.specs.declared.state.State.{State}
 use Rattle.chip.specs.declared.state.Outcome.{Outcome}
 use Rattle.latch.specs.Locks.{levelOf, secureField, nonsecureField, bootloaderField}
 use Rattle.latch.specs.Resetting.{latched, resetNumber, reset}
-use Rattle.latch.specs.Calls.{advanceNumber, advanced, advance}
+use Rattle.lock.specs.Calls.{advanceNumber, advanced, advance}
 use Rattle.laws.specs.Promises.{NoLockFalls, SoftLocksFallBack, LevelsFallBack, AdvanceLeavesHigher, AdvanceLeavesOthers}
-use Rattle.row.proofs.Choices.{own-number}
-use Rattle.row.proofs.Ladders.{passed}
+use Rattle.answer.proofs.Choices.{own-number}
+use Rattle.answer.proofs.Ladders.{passed}
 use Rattle.chip.proofs.Lists.{listed-at}
 use Rattle.laws.proofs.Latches.{reset-state}
 use Rattle.laws.proofs.Raised.{asked, asked-is, asked-shown, asked-others}

@@ -6,22 +6,22 @@ use mathlib.Core.Path.{_≡_, refl, sym, _∙_}
 use Prim.Native.Nat.{ℕ}
 use borrow.Author.Tests.{eqb-true}
 use lib.Dec.{eqb}
-use Rattle.row.specs.Answers.{answered}
-use Rattle.row.specs.Reading.{readRow}
-use Rattle.row.specs.declared.answer.Answer.{Answer}
-use Rattle.row.proofs.Choices.{own-number}
-use Rattle.row.proofs.Ladders.{refusing}
-use Rattle.chip.specs.Permission.{mayRead}
+use Rattle.answer.specs.Answers.{answered}
+use Rattle.decode.specs.Reading.{readRow}
+use Rattle.answer.specs.declared.answers.Answer.{Answer}
+use Rattle.answer.proofs.Choices.{own-number}
+use Rattle.answer.proofs.Ladders.{refusing}
+use Rattle.permit.specs.Permission.{mayRead}
 use Rattle.chip.specs.Slices.{rowAt}
 use Rattle.chip.specs.declared.state.State.{State}
 use Rattle.chip.specs.declared.state.Outcome.{Outcome}
-use Rattle.latch.specs.Calls.{advance, showLock, enterKey}
+use Rattle.lock.specs.Calls.{advance, showLock, enterKey}
 use Rattle.latch.specs.Resetting.{reset}
-use Rattle.access.specs.Burning.{Left}
+use Rattle.burn.specs.Burning.{Left}
 use Rattle.access.specs.Judging.{ecc, noValue, rowRungs, callRungs}
 use Rattle.access.specs.Reads.{readEccNumber, readRaw, readEcc}
 use Rattle.access.specs.Votes.{readVote}
-use Rattle.access.specs.Writes.{writeRaw, writeEcc}
+use Rattle.burn.specs.Writes.{writeRaw, writeEcc}
 use Rattle.access.proofs.Answering.{read-done}
 use Rattle.job.specs.Jobs.{runJob, rehearse}
 use Rattle.laws.specs.Calls.{aReset, aRawRead, anEccRead, aVote, aRawWrite, anEccWrite, anAdvance, aShow, aKey, aJob, aRehearsal, perform}

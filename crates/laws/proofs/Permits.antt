@@ -6,10 +6,10 @@ use borrow.Author.Tests.{eqb-true}
 use Prim.Native.Nat.{ℕ, max}
 use lib.Dec.{eqb, leb}
 use Rattle.chip.specs.Pages.{isLockRow}
-use Rattle.chip.specs.Permission.{rowKeyLevel, callerLevel, mayRead, mayWrite}
+use Rattle.permit.specs.Permission.{rowKeyLevel, callerLevel, mayRead, mayWrite}
 use Rattle.chip.specs.declared.state.State.{State}
 use Rattle.laws.specs.Promises.{MayWriteMayRead}
-use Rattle.row.proofs.Choices.{both-ways}
+use Rattle.answer.proofs.Choices.{both-ways}
 
 or-true : (t : Bool) → (t || true) ≡ true
 or-true true = refl

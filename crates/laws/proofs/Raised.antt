@@ -8,11 +8,11 @@ use native.Mathlib.Omega.{arith}
 use borrow.Author.Tests.{leb-true, leb-false}
 use lib.Dec.{eqb, leb}
 use lib.ListN.{set}
-use Rattle.row.specs.Choice.{if_then_else_}
+use Rattle.answer.specs.Choice.{if_then_else_}
 use Rattle.chip.specs.States.{countedLevel, withSecure, withNonsecure}
 use Rattle.chip.specs.declared.state.State.{State}
-use Rattle.latch.specs.Calls.{advanced}
-use Rattle.row.proofs.Choices.{both-ways, made-of}
+use Rattle.lock.specs.Calls.{advanced}
+use Rattle.answer.proofs.Choices.{both-ways, made-of}
 
 -- ---- the levels of a domain
 

@@ -11,18 +11,18 @@ use lib.Bits.{bitXor, xor-lt, xor-mod, xor-self}
 use lib.Count.{onesIn}
 use lib.Dec.{eqb, leb, eqb→eq, leb→le, lit≤}
 use lib.Pow.{pow-lt, pow-pos}
-use Rattle.row.specs.Answers.{refused, found}
+use Rattle.answer.specs.Answers.{refused, found}
 use Rattle.row.specs.Code.{setBits, distance, parity, masks, withCheck, withChecks, code, inverted}
-use Rattle.row.specs.Reading.{upright, dataOf, isCode, flippedAt, repairedBelow, decoded, saidOf, readRow}
-use Rattle.row.specs.declared.answer.Answer.{Answer}
-use Rattle.row.specs.declared.answer.Condition.{Condition}
-use Rattle.row.specs.declared.answer.Condition.the-variants.{Clean, Repaired}
+use Rattle.decode.specs.Reading.{upright, dataOf, isCode, flippedAt, repairedBelow, decoded, saidOf, readRow}
+use Rattle.answer.specs.declared.answers.Answer.{Answer}
+use Rattle.answer.specs.declared.answers.Condition.{Condition}
+use Rattle.answer.specs.declared.answers.Condition.the-variants.{Clean, Repaired}
 use Rattle.row.proofs.Codes.{code-data, code-lt}
 use Rattle.row.proofs.Counts.{ones-split, ZeroOrPower, one-set}
 use Rattle.row.proofs.Digits.{at-below}
-use Rattle.row.proofs.Ladders.{read-or-8}
+use Rattle.decode.proofs.Undecoded.{read-or-8}
 use Rattle.row.proofs.Places.{xor-right-comm}
-use Rattle.row.proofs.Syndromes.{xor-cancel, xor-cancel-left, xor-none, syndrome, data-lt, syndrome-linear, code-syndrome, columns, placeBelow, decoded-by-syndrome}
+use Rattle.decode.proofs.Syndromes.{xor-cancel, xor-cancel-left, xor-none, syndrome, data-lt, syndrome-linear, code-syndrome, columns, placeBelow, decoded-by-syndrome}
 use Rattle.laws.specs.Reads.{Value, looked, Near, OneValue, ZeroOrEight, Sound, Complete, EightExactly, Undamaged, Corrected, PlainFlag, PlainFlagCorrected, InvertedFlag}
 use Rattle.laws.proofs.Flags.{both-set, looked-flag, said-plain, said-inverted, said-worn}
 

@@ -5,24 +5,24 @@ use mathlib.Core.List.{List}
 use mathlib.Core.Path.{_≡_, refl}
 use Prim.Native.Nat.{ℕ}
 use lib.Dec.{eqb}
-use Rattle.row.specs.Answers.{refused}
-use Rattle.row.specs.Choice.{if_then_else_}
-use Rattle.row.specs.Reading.{readRow}
-use Rattle.row.specs.declared.answer.Condition.the-variants.{Clean}
-use Rattle.row.specs.declared.answer.Polarity.the-variants.{Plain}
+use Rattle.answer.specs.Answers.{refused}
+use Rattle.answer.specs.Choice.{if_then_else_}
+use Rattle.decode.specs.Reading.{readRow}
+use Rattle.answer.specs.declared.answers.Condition.the-variants.{Clean}
+use Rattle.answer.specs.declared.answers.Polarity.the-variants.{Plain}
 use Rattle.chip.specs.Slices.{rowAt}
 use Rattle.chip.specs.declared.state.State.{State}
-use Rattle.latch.specs.Calls.{advanceNumber, showNumber, enterNumber, advance, showLock, enterKey}
+use Rattle.lock.specs.Calls.{advanceNumber, showNumber, enterNumber, advance, showLock, enterKey}
 use Rattle.latch.specs.Resetting.{resetNumber, reset}
 use Rattle.access.specs.Reads.{readRawNumber, readEccNumber, readRaw, readEcc}
 use Rattle.access.specs.Votes.{readVoteNumber, readVote}
-use Rattle.access.specs.Writes.{writeRawNumber, writeEccNumber, writeRaw, writeEcc}
+use Rattle.burn.specs.Writes.{writeRawNumber, writeEccNumber, writeRaw, writeEcc}
 use Rattle.job.specs.Jobs.{runJob, rehearse}
-use Rattle.job.specs.Verdicts.{verdictOf}
+use Rattle.judge.specs.Verdicts.{verdictOf}
 use Rattle.laws.specs.Calls.{Chip, Call, Result, only, stated, leaving, aReset, aRawRead, anEccRead, aVote, aRawWrite, anEccWrite, anAdvance, aShow, aKey, aJob, aRehearsal, perform}
 use Rattle.laws.specs.Promises.{RefusalKeeps}
-use Rattle.row.proofs.Choices.{both-ways}
-use Rattle.row.proofs.Ladders.{read-or-8}
+use Rattle.answer.proofs.Choices.{both-ways}
+use Rattle.decode.proofs.Undecoded.{read-or-8}
 
 -- a result that is done, of an ECC read or of another call, which says clean and plain, or is a refusal that changes nothing
 pub data Kept (chip : Chip) (call : Call) (r : Result) : Type 0 where

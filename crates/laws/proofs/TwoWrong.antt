@@ -10,7 +10,7 @@ use lib.Dec.{eqb}
 use Rattle.row.specs.Code.{setBits, distance, code}
 use Rattle.row.proofs.Counts.{ones-at-most}
 use Rattle.row.proofs.Places.{bit-xor, xor-assoc}
-use Rattle.row.proofs.Syndromes.{xor-cancel-left}
+use Rattle.decode.proofs.Syndromes.{xor-cancel-left}
 use Rattle.laws.specs.Reads.{looked, Near, TwoNoticed}
 use Rattle.laws.proofs.Codes.{fourApart}
 use Rattle.laws.proofs.Reading.{eightExactly}

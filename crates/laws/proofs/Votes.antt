@@ -11,7 +11,7 @@ use borrow.Author.Tests.{leb-true, leb-false, le-leb, lt-leb}
 use lib.Bits.{bitAnd, and-le-l}
 use lib.Dec.{leb}
 use lib.ListN.{length}
-use Rattle.row.specs.Choice.{if_then_else_}
+use Rattle.answer.specs.Choice.{if_then_else_}
 use Rattle.row.specs.Code.{bitAt}
 use Rattle.row.proofs.Digits.{zero-or-one}
 use Rattle.row.proofs.Places.{bit-lt, bit-and, same-below}

@@ -9,12 +9,12 @@ use lib.Dec.{eqb}
 use Rattle.chip.specs.States.{withEntered, withTallies}
 use Rattle.chip.specs.declared.state.State.{State}
 use Rattle.chip.specs.declared.state.Outcome.{Outcome}
-use Rattle.latch.specs.Calls.{advance, enterNumber, enterKey}
+use Rattle.lock.specs.Calls.{advance, enterNumber, enterKey}
 use Rattle.laws.specs.Calls.{Chip, Call, aReset, aRawRead, anEccRead, aVote, aRawWrite, anEccWrite, anAdvance, aShow, aKey, aJob, aRehearsal, perform, performAll}
 use Rattle.laws.specs.Promises.{NoReset, Burns}
 use Rattle.laws.proofs.Refusals.{refusalKeeps}
 use Rattle.laws.proofs.Burning.{burningLatchesNothing}
-use Rattle.row.proofs.Choices.{both-ways}
+use Rattle.answer.proofs.Choices.{both-ways}
 
 module _ (Kept : State → State → Type 0) (itself : (state : State) → Kept state state)
     (through : (a b c : State) → Kept a b → Kept b c → Kept a c)

@@ -3,7 +3,7 @@
 use mathlib.Core.Path.{refl}
 use lib.Count.{onesIn}
 use Rattle.row.specs.Code.{setBits, parity, masks, withCheck, withChecks, code}
-use Rattle.row.specs.Reading.{repairedBelow, decoded}
+use Rattle.decode.specs.Reading.{repairedBelow, decoded}
 use Rattle.laws.specs.Worked.{WorkedRows}
 
 pub workedRows : WorkedRows

@@ -9,11 +9,11 @@ use native.Mathlib.Omega.{arith}
 use borrow.Author.Tests.{eqb-true, eqb-false, eq-eqb, ne-eqb}
 use lib.Bits.{bitAnd, bitOr, differ, and-self}
 use lib.Dec.{eqb, eqb→eq}
-use Rattle.row.specs.Answers.{foundIn}
+use Rattle.answer.specs.Answers.{foundIn}
 use Rattle.row.specs.Code.{bitAt, setBits, flipped, plain, inverted}
-use Rattle.row.specs.Reading.{readRow}
+use Rattle.decode.specs.Reading.{readRow}
 use Rattle.row.specs.Writing.{fits, pulses, burntOver, leftAlone, eccWritten}
-use Rattle.row.specs.declared.answer.Condition.the-variants.{Clean}
+use Rattle.answer.specs.declared.answers.Condition.the-variants.{Clean}
 use Rattle.row.specs.declared.writing.Written.{Written}
 use Rattle.row.proofs.Counts.{ones-sum, ZeroOrPower, one-set}
 use Rattle.row.proofs.Digits.{zero-or-one, at-below, equal3}

@@ -6,13 +6,13 @@ use mathlib.Core.Logic.{_⊎_, _↔_}
 use mathlib.Core.Path.{_≡_}
 use lib.Dec.{eqb, ltb, leb}
 use lib.ListN.{length}
-use Rattle.row.specs.Choice.{if_then_else_}
-use Rattle.row.specs.Rungs.{_when_, firstOf}
+use Rattle.answer.specs.Choice.{if_then_else_}
+use Rattle.answer.specs.Rungs.{_when_, firstOf}
 use Rattle.chip.specs.Pages.{isLockRow, owner}
-use Rattle.chip.specs.Permission.{rowKeyLevel, callerLevel, mayRead, mayWrite}
+use Rattle.permit.specs.Permission.{rowKeyLevel, callerLevel, mayRead, mayWrite}
 use Rattle.chip.specs.States.{countedLevel}
 use Rattle.chip.specs.declared.state.State.{State}
-use Rattle.latch.specs.Calls.{advanceNumber, showNumber, enterNumber}
+use Rattle.lock.specs.Calls.{advanceNumber, showNumber, enterNumber}
 use Rattle.laws.specs.Calls.{Chip, Call, performAll}
 use Rattle.laws.specs.Promises.{NoReset}
 

@@ -2,15 +2,15 @@
 -- contracts of the entry points name.
 use Prim.Native.Nat.{ℕ}
 use mathlib.Core.List.{List, [], _∷_}
-use Rattle.row.specs.declared.answer.Answer.{Answer}
+use Rattle.answer.specs.declared.answers.Answer.{Answer}
 use Rattle.chip.specs.declared.state.State.{State}
 use Rattle.chip.specs.declared.state.Outcome.{Outcome}
-use Rattle.latch.specs.Calls.{advance, showLock, enterKey}
+use Rattle.lock.specs.Calls.{advance, showLock, enterKey}
 use Rattle.latch.specs.Resetting.{reset}
 use Rattle.access.specs.Reads.{readRaw, readEcc}
 use Rattle.access.specs.Votes.{readVote}
-use Rattle.access.specs.Burning.{Left}
-use Rattle.access.specs.Writes.{writeRaw, writeEcc}
+use Rattle.burn.specs.Burning.{Left}
+use Rattle.burn.specs.Writes.{writeRaw, writeEcc}
 use Rattle.job.specs.Jobs.{runJob, rehearse}
 
 -- a chip: its row slice, of any length, and its latched state

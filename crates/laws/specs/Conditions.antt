@@ -4,13 +4,13 @@ use mathlib.Core.Logic.{_↔_}
 use mathlib.Core.Path.{_≡_}
 use Prim.Native.Nat.{ℕ, _^_, _≤_, _<_}
 use lib.ListN.{length, set}
-use Rattle.row.specs.Answers.{answered}
+use Rattle.answer.specs.Answers.{answered}
 use Rattle.row.specs.Code.{bitAt, code}
-use Rattle.row.specs.Reading.{flippedAt, decoded, readRow}
-use Rattle.row.specs.declared.answer.Answer.{Answer}
-use Rattle.row.specs.declared.answer.Condition.{Condition}
-use Rattle.row.specs.declared.answer.Condition.the-variants.{Clean, Repaired, FlagWorn, FlagWornRepaired}
-use Rattle.row.specs.declared.answer.Polarity.the-variants.{Plain, Inverted}
+use Rattle.decode.specs.Reading.{flippedAt, decoded, readRow}
+use Rattle.answer.specs.declared.answers.Answer.{Answer}
+use Rattle.answer.specs.declared.answers.Condition.{Condition}
+use Rattle.answer.specs.declared.answers.Condition.the-variants.{Clean, Repaired, FlagWorn, FlagWornRepaired}
+use Rattle.answer.specs.declared.answers.Polarity.the-variants.{Plain, Inverted}
 use Rattle.chip.specs.Slices.{rowAt}
 use Rattle.chip.specs.declared.state.State.{State}
 use Rattle.latch.specs.Resetting.{latched}

@@ -1,11 +1,11 @@
 -- What the contracts leave no room for (document 01): for each call what the `ensures` of its entry point says of the result.
 use mathlib.Core.Path.{_≡_}
 use Rattle.chip.specs.declared.state.Outcome.{Outcome}
-use Rattle.latch.specs.Calls.{advance, showLock, enterKey}
+use Rattle.lock.specs.Calls.{advance, showLock, enterKey}
 use Rattle.latch.specs.Resetting.{reset}
 use Rattle.access.specs.Reads.{readRaw, readEcc}
 use Rattle.access.specs.Votes.{readVote}
-use Rattle.access.specs.Writes.{writeRaw, writeEcc}
+use Rattle.burn.specs.Writes.{writeRaw, writeEcc}
 use Rattle.job.specs.Jobs.{runJob, rehearse}
 use Rattle.laws.specs.Calls.{Chip, Call, Result, aReset, aRawRead, anEccRead, aVote, aRawWrite, anEccWrite, anAdvance, aShow, aKey, aJob, aRehearsal, perform}
 

@@ -4,11 +4,11 @@ use mathlib.Core.Bool.{true, _&&_}
 use mathlib.Core.Logic.{_⊎_}
 use mathlib.Core.Path.{_≡_}
 use lib.Dec.{eqb, leb}
-use Rattle.row.specs.Choice.{if_then_else_}
+use Rattle.answer.specs.Choice.{if_then_else_}
 use Rattle.chip.specs.Callers.{shownLevel}
-use Rattle.chip.specs.Keys.{keyLevel}
+use Rattle.permit.specs.Keys.{keyLevel}
 use Rattle.chip.specs.Pages.{firstRow, lowLockRow, highLockRow}
-use Rattle.chip.specs.Permission.{rowKeyLevel, callerLevel, mayRead, mayWrite}
+use Rattle.permit.specs.Permission.{rowKeyLevel, callerLevel, mayRead, mayWrite}
 use Rattle.chip.specs.declared.state.State.{State}
 
 -- a row of a lock word, the low or the high one

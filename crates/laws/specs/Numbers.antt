@@ -1,12 +1,12 @@
 -- The number of each call. Each of these is a list of rungs in document 01's order ("Given exactly when"), where the call is defined.
 use Prim.Native.Nat.{ℕ}
 use mathlib.Core.Path.{_≡_}
-use Rattle.latch.specs.Calls.{advanceNumber, showNumber, enterNumber}
+use Rattle.lock.specs.Calls.{advanceNumber, showNumber, enterNumber}
 use Rattle.latch.specs.Resetting.{resetNumber}
 use Rattle.access.specs.Reads.{readRawNumber, readEccNumber}
 use Rattle.access.specs.Votes.{readVoteNumber}
-use Rattle.access.specs.Writes.{writeRawNumber, writeEccNumber}
-use Rattle.job.specs.Verdicts.{verdictOf}
+use Rattle.burn.specs.Writes.{writeRawNumber, writeEccNumber}
+use Rattle.judge.specs.Verdicts.{verdictOf}
 use Rattle.laws.specs.Calls.{Chip, Call, aReset, aRawRead, anEccRead, aVote, aRawWrite, anEccWrite, anAdvance, aShow, aKey, aJob, aRehearsal, perform}
 
 -- the number of the first of a call's tests that holds, and 0 where none does

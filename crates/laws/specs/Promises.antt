@@ -7,23 +7,23 @@ use mathlib.Core.Path.{_≡_}
 use lib.Bits.{bitOr}
 use lib.Dec.{ltb}
 use lib.ListN.{set}
-use Rattle.row.specs.Answers.{foundIn}
+use Rattle.answer.specs.Answers.{foundIn}
 use Rattle.row.specs.Code.{setBits, plain, inverted}
-use Rattle.row.specs.Rungs.{firstOf}
-use Rattle.row.specs.declared.answer.Condition.the-variants.{Clean}
-use Rattle.row.specs.declared.answer.Polarity.the-variants.{Plain}
+use Rattle.answer.specs.Rungs.{firstOf}
+use Rattle.answer.specs.declared.answers.Condition.the-variants.{Clean}
+use Rattle.answer.specs.declared.answers.Polarity.the-variants.{Plain}
 use Rattle.chip.specs.Callers.{shownLevel}
 use Rattle.chip.specs.Pages.{highLockRow}
-use Rattle.chip.specs.Permission.{mayRead, mayWrite}
+use Rattle.permit.specs.Permission.{mayRead, mayWrite}
 use Rattle.chip.specs.Slices.{rowAt}
 use Rattle.chip.specs.States.{withTallies}
 use Rattle.chip.specs.declared.state.State.{State}
-use Rattle.latch.specs.Calls.{advance}
+use Rattle.lock.specs.Calls.{advance}
 use Rattle.latch.specs.Locks.{levelOf, secureField, nonsecureField, bootloaderField}
 use Rattle.latch.specs.Resetting.{resetNumber, reset}
 use Rattle.access.specs.Reads.{readEccNumber, readEcc}
 use Rattle.access.specs.Judging.{ecc, callRungs}
-use Rattle.access.specs.Writes.{writeRaw, writeEcc}
+use Rattle.burn.specs.Writes.{writeRaw, writeEcc}
 use Rattle.laws.specs.Calls.{Chip, Call, aReset, aRawWrite, anEccWrite, aJob, aRehearsal, perform, performAll}
 use Rattle.laws.specs.Writes.{In, burntIn}
 

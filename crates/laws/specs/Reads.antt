@@ -3,11 +3,11 @@ use mathlib.Core.Logic.{_⊎_, _↔_}
 use mathlib.Core.Path.{_≡_}
 use Prim.Native.Nat.{ℕ, _%_, _^_, _≤_, _<_}
 use lib.Bits.{bitXor}
-use Rattle.row.specs.Answers.{refused, found, foundIn}
+use Rattle.answer.specs.Answers.{refused, found, foundIn}
 use Rattle.row.specs.Code.{distance, code, plain, inverted}
-use Rattle.row.specs.Reading.{upright, flippedAt, readRow}
-use Rattle.row.specs.declared.answer.Condition.the-variants.{Clean, Repaired, FlagWorn, FlagWornRepaired}
-use Rattle.row.specs.declared.answer.Polarity.the-variants.{Inverted}
+use Rattle.decode.specs.Reading.{upright, flippedAt, readRow}
+use Rattle.answer.specs.declared.answers.Condition.the-variants.{Clean, Repaired, FlagWorn, FlagWornRepaired}
+use Rattle.answer.specs.declared.answers.Polarity.the-variants.{Inverted}
 
 -- a value of 16 bits
 abbrev pub Value : ℕ → Type 0

@@ -1,11 +1,11 @@
 -- The twelve worked rows that document 01 marks P ("Worked rows, both sides"), under one claim.
 use mathlib.Core.Path.{_≡_}
-use Rattle.row.specs.Answers.{refused, foundIn}
+use Rattle.answer.specs.Answers.{refused, foundIn}
 use Rattle.row.specs.Code.{code}
-use Rattle.row.specs.Reading.{readRow}
+use Rattle.decode.specs.Reading.{readRow}
 use Rattle.row.specs.Writing.{eccWritten}
-use Rattle.row.specs.declared.answer.Condition.the-variants.{Clean, Repaired}
-use Rattle.row.specs.declared.answer.Polarity.the-variants.{Plain, Inverted}
+use Rattle.answer.specs.declared.answers.Condition.the-variants.{Clean, Repaired}
+use Rattle.answer.specs.declared.answers.Polarity.the-variants.{Plain, Inverted}
 
 pub record WorkedRows : Type 0 where
   pub P1 : code 0xffff ≡ 0x1effff

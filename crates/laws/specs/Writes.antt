@@ -4,14 +4,14 @@ use mathlib.Core.List.{List, [], _∷_}
 use mathlib.Core.Logic.{_⊎_, _↔_}
 use mathlib.Core.Path.{_≡_}
 use Prim.Native.Nat.{ℕ, _+_, _^_, _≤_, _<_}
-use Rattle.row.specs.Answers.{foundIn}
-use Rattle.row.specs.Choice.{if_then_else_}
+use Rattle.answer.specs.Answers.{foundIn}
+use Rattle.answer.specs.Choice.{if_then_else_}
 use Rattle.row.specs.Code.{setBits, plain, inverted}
-use Rattle.row.specs.Reading.{readRow}
+use Rattle.decode.specs.Reading.{readRow}
 use Rattle.row.specs.Writing.{fits, pulses, eccWritten, rawWritten}
-use Rattle.row.specs.declared.answer.Condition.the-variants.{Clean}
-use Rattle.row.specs.declared.answer.Polarity.{Polarity}
-use Rattle.row.specs.declared.answer.Polarity.the-variants.{Plain, Inverted}
+use Rattle.answer.specs.declared.answers.Condition.the-variants.{Clean}
+use Rattle.answer.specs.declared.answers.Polarity.{Polarity}
+use Rattle.answer.specs.declared.answers.Polarity.the-variants.{Plain, Inverted}
 use Rattle.laws.specs.Reads.{Value}
 
 -- every bit of one row is in another

@@ -1,11 +1,11 @@
 // The screen of wear: a line for each row that Secure's ECC read repairs, finds flag worn or cannot decode, and how many there are of each.
 use access::reads::read_ecc;
+use answer::answers::Answer;
+use answer::answers::Condition;
 use board::range::Range;
 use chip::callers::SECURE;
 use chip::slices::row_at;
 use chip::state::State;
-use row::answer::Answer;
-use row::answer::Condition;
 use screen::print;
 use screen::tally::sum;
 use wording::condition;

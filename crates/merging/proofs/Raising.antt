@@ -6,14 +6,14 @@ use Prim.Native.Nat.{ℕ, _≤_, max}
 use native.Mathlib.Omega.{arith}
 use borrow.Author.Tests.{eqb-true, le-ltb}
 use lib.Dec.{eqb}
-use Rattle.row.specs.Choice.{if_then_else_}
+use Rattle.answer.specs.Choice.{if_then_else_}
 use Rattle.chip.specs.States.{withSecure, withNonsecure}
 use Rattle.chip.specs.declared.state.State.{State}
 use Rattle.chip.specs.declared.state.Outcome.{Outcome}
-use Rattle.latch.specs.Calls.{advanceNumber, advanced, advance}
+use Rattle.lock.specs.Calls.{advanceNumber, advanced, advance}
 use Rattle.laws.specs.Calls.{Chip, Call, anAdvance, perform}
 use Rattle.merging.specs.Settings.{Advances}
-use Rattle.row.proofs.Choices.{made-of}
+use Rattle.answer.proofs.Choices.{made-of}
 use Rattle.laws.proofs.Raised.{raised-twice, raised-either, asked, asked-is}
 use Rattle.laws.proofs.Locking.{in-range}
 

@@ -9,10 +9,10 @@ use borrow.Author.Tests.{le-leb}
 use lib.Dec.{eqb}
 use Rattle.chip.specs.Callers.{shownLevel}
 use Rattle.chip.specs.declared.state.Outcome.{Outcome}
-use Rattle.latch.specs.Calls.{advanceNumber, advance}
+use Rattle.lock.specs.Calls.{advanceNumber, advance}
 use Rattle.laws.specs.Calls.{Chip, anAdvance, perform, performAll}
 use Rattle.merging.specs.Settings.{Lock, locksOf, Levels, Setting, merge, zeroEverywhere, callTo, _among_, Advances, ThenIsMerge, EitherOrder, EitherGrouping, TwiceIsOnce, ZeroChangesNothing, LeftOut}
-use Rattle.row.proofs.Choices.{both-ways}
+use Rattle.answer.proofs.Choices.{both-ways}
 use Rattle.merging.proofs.AnyOrder.{AllAdvance, before-or-after}
 use Rattle.merging.proofs.Raising.{after, withState, twice-is-higher}
 

@@ -9,13 +9,13 @@ use native.Mathlib.Nat.{le-refl}
 use native.Mathlib.Omega.{arith}
 use borrow.Author.Tests.{eqb-true, eqb-false, le-ltb}
 use lib.Dec.{eqb}
-use Rattle.row.specs.Choice.{if_then_else_}
+use Rattle.answer.specs.Choice.{if_then_else_}
 use Rattle.chip.specs.Lists.{listed}
 use Rattle.chip.specs.declared.state.Outcome.{Outcome}
-use Rattle.latch.specs.Calls.{advanceNumber, advance}
+use Rattle.lock.specs.Calls.{advanceNumber, advance}
 use Rattle.laws.specs.Calls.{Chip, Call, perform, performAll}
 use Rattle.merging.specs.Settings.{Lock, locksIn, locksOf, Levels, callTo, shown, _among_, Advances, NoneRefused, HigherShown, OthersStay}
-use Rattle.row.proofs.Choices.{own-number}
+use Rattle.answer.proofs.Choices.{own-number}
 use Rattle.merging.proofs.AnyOrder.{before-or-after, adds-nothing}
 use Rattle.laws.proofs.Locking.{advanceLeavesHigher, advanceLeavesOthers}
 use Rattle.merging.proofs.Raising.{after, number-by-level}

@@ -5,7 +5,7 @@ use mathlib.Core.List.{List, [], _∷_, _++_, map}
 use mathlib.Core.Logic.{_⊎_, _↔_}
 use mathlib.Core.Path.{_≡_}
 use lib.Dec.{eqb}
-use Rattle.row.specs.Choice.{if_then_else_}
+use Rattle.answer.specs.Choice.{if_then_else_}
 use Rattle.chip.specs.Callers.{shownLevel}
 use Rattle.chip.specs.Lists.{listed}
 use Rattle.laws.specs.Calls.{Chip, Call, anAdvance, perform, performAll}

@@ -3,9 +3,9 @@ use crate::print;
 use crate::said::NONE;
 use crate::said::Said;
 use crate::said::or_zero;
-use row::answer::Answer;
-use row::answer::Condition;
-use row::answer::Polarity;
+use answer::answers::Answer;
+use answer::answers::Condition;
+use answer::answers::Polarity;
 
 fn agreeing(place: u32) -> Condition {
     if place == NONE {

@@ -2,12 +2,12 @@
 use crate::print;
 use crate::same::same_state;
 use crate::states;
+use answer::answers::done;
+use answer::answers::refused;
+use answer::answers::told;
 use chip::state::State;
-use latch::calls::advance;
-use latch::calls::show;
-use row::answer::done;
-use row::answer::refused;
-use row::answer::told;
+use lock::calls::advance;
+use lock::calls::show;
 use screen::same::same_answer;
 use screen::tally;
 use screen::tally::Tally;

@@ -9,9 +9,9 @@ use crate::said::or_zero;
 use crate::same::same_state;
 use crate::states;
 use crate::tallies;
+use answer::answers::Answer;
 use chip::state::Outcome;
 use chip::state::State;
-use row::answer::Answer;
 use screen::same::same_answer;
 use screen::tally;
 

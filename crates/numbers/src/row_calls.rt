@@ -40,9 +40,9 @@ fn burn(rows: &mut [u32], entries: u32, state: State, name: usize, said: Said) -
     let end = within(entries, rows.len());
     let value = said.third;
     if name == names::WRITE_ECC {
-        return access::writes::write_ecc(&mut rows[0..end], state, said.first, said.second, value);
+        return burn::writes::write_ecc(&mut rows[0..end], state, said.first, said.second, value);
     }
-    access::writes::write_raw(&mut rows[0..end], state, said.first, said.second, value)
+    burn::writes::write_raw(&mut rows[0..end], state, said.first, said.second, value)
 }
 
 // Either write. Given the caller, the row and the value.

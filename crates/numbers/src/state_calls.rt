@@ -29,7 +29,7 @@ pub fn advance(board: Board, said: Said) -> Board {
     let state = board.state;
     let domain = said.second;
     let page = said.third;
-    let outcome = latch::calls::advance(state, said.first, domain, page, said.fourth);
+    let outcome = lock::calls::advance(state, said.first, domain, page, said.fourth);
     if said.left == NONE {
         return changed(board, said, outcome, state, b"kept");
     }
@@ -40,13 +40,13 @@ pub fn advance(board: Board, said: Said) -> Board {
 // Given the caller, the domain and the page.
 pub fn show(board: Board, said: Said) -> Board {
     let state = board.state;
-    let is = latch::calls::show(state, said.first, said.second, said.third);
+    let is = lock::calls::show(state, said.first, said.second, said.third);
     answered(board, said, is)
 }
 
 fn entered(state: State, caller: u32, bytes: &[u8], count: u32) -> Outcome {
     let end = within(count, bytes.len());
-    latch::calls::enter_key(state, caller, &bytes[0..end])
+    lock::calls::enter_key(state, caller, &bytes[0..end])
 }
 
 // Given the caller and the count of bytes. Entered, the prepared bytes must be the prepared words.

@@ -1,6 +1,6 @@
 -- What C gets of an answer and an outcome: the same, with the condition and the polarity as numbers.
-use Rattle.row.specs.Conditions.{conditionNumber, repairedBit, polarityNumber, disagreeNumber}
-use Rattle.row.specs.declared.answer.Answer.{Answer}
+use Rattle.answer.specs.Conditions.{conditionNumber, repairedBit, polarityNumber, disagreeNumber}
+use Rattle.answer.specs.declared.answers.Answer.{Answer}
 use Rattle.chip.specs.declared.state.Outcome.{Outcome}
 use Rattle.otp.specs.declared.flat.FlatAnswer.{FlatAnswer}
 use Rattle.otp.specs.declared.flat.FlatOutcome.{FlatOutcome}

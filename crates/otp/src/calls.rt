@@ -1,11 +1,11 @@
 // The eleven calls that libotp.a exports. Each is the call of the crate below, and what C takes of its answer.
 // Each contract cites the definition of that call, so all that is proved of the call holds here too.
 ghost use mathlib.Core.Path.{_≡_};
-ghost use Rattle.latch.specs.Calls as latch;
+ghost use Rattle.lock.specs.Calls as latch;
 ghost use Rattle.latch.specs.Resetting as resetting;
 ghost use Rattle.access.specs.Reads as reads;
 ghost use Rattle.access.specs.Votes as votes;
-ghost use Rattle.access.specs.Writes as writes;
+ghost use Rattle.burn.specs.Writes as writes;
 ghost use Rattle.job.specs.Jobs as jobs;
 ghost use Rattle.otp.specs.Flat.{flatAnswer, flatOutcome};
 use crate::flat::FlatAnswer;
@@ -15,15 +15,15 @@ use crate::flat::flat_outcome;
 use access::reads::read_ecc;
 use access::reads::read_raw;
 use access::votes::read_vote;
-use access::writes::write_ecc;
-use access::writes::write_raw;
+use burn::writes::write_ecc;
+use burn::writes::write_raw;
 use chip::state::State;
 use job::jobs::MOST_PULSES;
 use job::jobs::rehearse;
-use latch::calls::advance;
-use latch::calls::enter_key;
-use latch::calls::show;
 use latch::resetting::reset;
+use lock::calls::advance;
+use lock::calls::enter_key;
+use lock::calls::show;
 
 // Latches what the rows hold.
 #[no_mangle]

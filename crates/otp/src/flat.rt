@@ -1,13 +1,13 @@
 // The answer and the outcome as C takes them. An enum cannot cross to C, so the condition and the polarity are numbers here.
 ghost use mathlib.Core.Path.{_≡_};
 ghost use Rattle.otp.specs.Flat as spec;
+use answer::answers::Answer;
+use answer::conditions::condition_number;
+use answer::conditions::disagree_number;
+use answer::conditions::polarity_number;
+use answer::conditions::repaired_bit;
 use chip::state::Outcome;
 use chip::state::State;
-use row::answer::Answer;
-use row::conditions::condition_number;
-use row::conditions::disagree_number;
-use row::conditions::polarity_number;
-use row::conditions::repaired_bit;
 
 // `otp_answer` of the header.
 #[repr(C)]

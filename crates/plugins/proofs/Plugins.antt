@@ -10,25 +10,25 @@ use native.Mathlib.Omega.{arith}
 use borrow.Author.Tests.{eq-eqb, eqb-true, eqb-false}
 use lib.Dec.{eqb, ltb}
 use lib.ListN.{length, getD, set, length-set}
-use Rattle.row.specs.Answers.{told, spent, answered}
-use Rattle.row.specs.Choice.{if_then_else_}
-use Rattle.row.specs.Reading.{readRow, undecodable}
-use Rattle.row.specs.Rungs.{_when_}
+use Rattle.answer.specs.Answers.{told, spent, answered}
+use Rattle.answer.specs.Choice.{if_then_else_}
+use Rattle.decode.specs.Reading.{readRow, undecodable}
+use Rattle.answer.specs.Rungs.{_when_}
 use Rattle.row.specs.Writing.{eccWritten, rawWritten, neitherFits}
-use Rattle.row.specs.declared.answer.Answer.{Answer}
+use Rattle.answer.specs.declared.answers.Answer.{Answer}
 use Rattle.row.specs.declared.writing.Written.{Written}
 use Rattle.vote.specs.Voting.{threshold, vote}
 use Rattle.chip.specs.Callers.{shownLevel}
-use Rattle.chip.specs.Permission.{mayRead, mayWrite}
+use Rattle.permit.specs.Permission.{mayRead, mayWrite}
 use Rattle.chip.specs.Slices.{rowAt}
 use Rattle.chip.specs.declared.state.State.{State}
 use Rattle.chip.specs.declared.state.Outcome.{Outcome}
-use Rattle.latch.specs.Calls.{advanceNumber, advanced, advance, showNumber, showLock}
+use Rattle.lock.specs.Calls.{advanceNumber, advanced, advance, showNumber, showLock}
 use Rattle.access.specs.Judging.{raw, ecc, noValue, rowRungs, callRungs}
 use Rattle.access.specs.Reads.{readRaw, readEcc}
 use Rattle.access.specs.Votes.{readVote}
-use Rattle.access.specs.Burning.{Left, oneRow}
-use Rattle.access.specs.Writes.{writeRaw, writeEcc}
+use Rattle.burn.specs.Burning.{Left, oneRow}
+use Rattle.burn.specs.Writes.{writeRaw, writeEcc}
 use Rattle.laws.specs.Calls.{Chip, Call, Result, only, stated, leaving, perform, performAll, answersOf}
 use Rattle.merging.specs.Settings.{_among_}
 use Rattle.plugins.specs.Plugins.{Agree, ByNonsecure, SameAsBefore, NothingLearnt}

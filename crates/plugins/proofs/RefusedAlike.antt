@@ -9,17 +9,17 @@ use borrow.Author.Tests.{ltb-false, not-false}
 use lib.Dec.{eqb, ltb, leb}
 use lib.ListN.{length, take}
 use lib.Seq.{drop-cons}
-use Rattle.row.specs.Choice.{if_then_else_}
-use Rattle.row.specs.Rungs.{Rung, firstOf}
-use Rattle.chip.specs.Keys.{hidden}
+use Rattle.answer.specs.Choice.{if_then_else_}
+use Rattle.answer.specs.Rungs.{Rung, firstOf}
+use Rattle.permit.specs.Keys.{hidden}
 use Rattle.chip.specs.Pages.{isLockRow, owner}
-use Rattle.chip.specs.Permission.{mayRead, mayWrite}
+use Rattle.permit.specs.Permission.{mayRead, mayWrite}
 use Rattle.chip.specs.Slices.{rowAt, notWhole, tooLarge}
 use Rattle.chip.specs.declared.state.State.{State}
 use Rattle.access.specs.Judging.{rowRungs, callRungs}
 use Rattle.access.specs.Votes.{groupRungs, readVoteNumber, group}
 use Rattle.access.proofs.Passing.{whole}
-use Rattle.row.proofs.Ladders.{passed}
+use Rattle.answer.proofs.Ladders.{passed}
 use Rattle.laws.specs.Calls.{Chip}
 use Rattle.plugins.specs.Plugins.{Agree}
 

@@ -10,15 +10,15 @@ use borrow.Author.Tests.{leb-true, le-leb}
 use lib.Dec.{leb}
 use lib.ListN.{length}
 use Rattle.chip.specs.Callers.{levelsOf, shownLevel}
-use Rattle.chip.specs.Keys.{matches, keyLevel, hidden}
+use Rattle.permit.specs.Keys.{matches, keyLevel, hidden}
 use Rattle.chip.specs.Pages.{isLockRow, owner}
-use Rattle.chip.specs.Permission.{rowKeyLevel, mayRead}
+use Rattle.permit.specs.Permission.{rowKeyLevel, mayRead}
 use Rattle.chip.specs.Slices.{rowAt}
 use Rattle.chip.specs.States.{changed}
 use Rattle.chip.specs.declared.state.State.{State}
 use Rattle.laws.specs.Calls.{Chip}
 use Rattle.plugins.specs.Plugins.{knows, Agree, SameAsBefore}
-use Rattle.row.proofs.Choices.{both-ways}
+use Rattle.answer.proofs.Choices.{both-ways}
 use Rattle.laws.proofs.Raised.{asked}
 
 -- ---- keys that stay

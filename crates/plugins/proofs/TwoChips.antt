@@ -9,10 +9,10 @@ use borrow.Author.Tests.{eqb-true, eqb-false}
 use lib.Dec.{eqb, leb}
 use lib.ListN.{getD, replicate, set}
 use lib.Seq.{getD-set-other}
-use Rattle.chip.specs.Keys.{noKey, matches, keyLevel, hidden}
+use Rattle.permit.specs.Keys.{noKey, matches, keyLevel, hidden}
 use Rattle.chip.specs.Lists.{same}
 use Rattle.chip.specs.Pages.{keyPage}
-use Rattle.chip.specs.Permission.{mayRead}
+use Rattle.permit.specs.Permission.{mayRead}
 use Rattle.chip.specs.Slices.{rowAt}
 use Rattle.chip.specs.States.{countedIndex, zeroKey}
 use Rattle.chip.specs.declared.state.Key.{Key}

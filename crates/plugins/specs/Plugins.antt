@@ -6,9 +6,9 @@ use mathlib.Core.List.{List, _∷_}
 use mathlib.Core.Path.{_≡_}
 use lib.ListN.{length, replicate, set}
 use Rattle.chip.specs.Callers.{levelsOf, shownLevel}
-use Rattle.chip.specs.Keys.{keyAt, hidden}
+use Rattle.permit.specs.Keys.{keyAt, hidden}
 use Rattle.chip.specs.Pages.{isLockRow}
-use Rattle.chip.specs.Permission.{rowKeyLevel, mayRead}
+use Rattle.permit.specs.Permission.{rowKeyLevel, mayRead}
 use Rattle.chip.specs.Slices.{rowAt, tooLarge}
 use Rattle.chip.specs.States.{countedIndex, zeroKey}
 use Rattle.chip.specs.declared.state.State.{State}

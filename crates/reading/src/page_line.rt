@@ -1,12 +1,12 @@
 // What the screen of the pages says of one page, on a line of its own (document 01, "Locks", "Keys", "Permission").
 ghost use Prim.Native.Nat.{_<_};
 use chip::pages::Page;
-use chip::permission::row_key_level;
 use chip::state::State;
 use chip::state::Tallies;
 use chip::state::counted_index;
 use chip::state::counted_level;
 use chip::state::counted_no_key;
+use permit::permission::row_key_level;
 use screen::print;
 use wording::burnt;
 use wording::rights::Rights;

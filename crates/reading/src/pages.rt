@@ -8,7 +8,6 @@ use crate::page_line::write;
 use board::begin::Start;
 use board::begin::begin;
 use board::begin::finish;
-use chip::keys::matches;
 use chip::pages::Page;
 use chip::state::State;
 use console::options::Words;
@@ -16,6 +15,7 @@ use console::takes::Role;
 use console::takes::Takes;
 use console::usage::Given;
 use console::usage::asked;
+use permit::keys::matches;
 use screen::print;
 use wording::burnt;
 

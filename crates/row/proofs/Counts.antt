@@ -13,7 +13,8 @@ use lib.Count.{ones, onesIn, ones-step}
 use lib.Dec.{T, ltb, ltb→lt}
 use lib.Pow.{shr-shr, mod-mod-pow, field}
 use Rattle.row.specs.Code.{bitAt, setBits, parity}
-use Rattle.row.proofs.Digits.{both-left, both-right, zero-or-one, equal2, equal3, at-digits2}
+use Rattle.row.proofs.Digits.{zero-or-one, equal2, equal3, at-digits2}
+use Rattle.answer.proofs.Choices.{both-left, both-right}
 use Rattle.row.proofs.Places.{two-pos, bit-lowest, bit-half, xor-lowest}
 
 -- ---- counts, place by place

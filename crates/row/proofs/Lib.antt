@@ -1,9 +1,7 @@
-pub mod Choices
 pub mod Digits
 pub mod Places
 pub mod Counts
 pub mod Codes
 pub mod Checks
-pub mod Syndromes
 pub mod Lowest
-pub mod Ladders
+pub mod Unfit

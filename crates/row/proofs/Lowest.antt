@@ -12,7 +12,7 @@ use lib.Bits.{bitAnd, and-mask}
 use lib.Count.{onesIn}
 use lib.Dec.{ltb, leb, lit<}
 use lib.Pow.{pow-pos, mod-pow-add}
-use Rattle.row.specs.Choice.{if_then_else_}
+use Rattle.answer.specs.Choice.{if_then_else_}
 use Rattle.row.specs.Code.{bitAt}
 use Rattle.row.proofs.Counts.{ones-more, ones-low, ones-wider}
 use Rattle.row.proofs.Places.{bit-lt}

@@ -1,8 +1,3 @@
-pub mod Choice
-pub mod Answers
-pub mod Conditions
-pub mod Rungs
 pub mod Code
-pub mod Reading
 pub mod Writing
 pub mod Upward

@@ -3,7 +3,7 @@ use Prim.Native.Nat.{ℕ, zero, suc, _+_, _*_, _^_}
 use lib.Bits.{bitAnd, bitOr}
 use lib.Count.{onesIn}
 use lib.Dec.{ltb}
-use Rattle.row.specs.Choice.{if_then_else_}
+use Rattle.answer.specs.Choice.{if_then_else_}
 use Rattle.row.specs.Code.{bitAt, flipped}
 
 -- of some bits the n lowest, among those below `places`: a bit is among them if fewer than n are set below it

@@ -1,8 +1,8 @@
 -- When two answers are the same: number, value, condition, polarity, place and pulses.
 use mathlib.Core.Bool.{Bool, _&&_}
 use lib.Dec.{eqb}
-use Rattle.row.specs.Conditions.{conditionNumber, repairedBit, polarityNumber}
-use Rattle.row.specs.declared.answer.Answer.{Answer}
+use Rattle.answer.specs.Conditions.{conditionNumber, repairedBit, polarityNumber}
+use Rattle.answer.specs.declared.answers.Answer.{Answer}
 
 -- two answers say the same of the row if the numbers of their conditions and polarities are the same
 abbrev pub sameSaid : Answer → Answer → Bool

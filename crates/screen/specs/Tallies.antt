@@ -2,7 +2,7 @@
 use Prim.Native.Nat.{ℕ, _+_, _-_}
 use mathlib.Core.Bool.{Bool, not}
 use lib.Dec.{ltb}
-use Rattle.row.specs.Choice.{if_then_else_}
+use Rattle.answer.specs.Choice.{if_then_else_}
 use Rattle.screen.specs.declared.tally.Tally.{Tally}
 
 -- the sum of two counts; where one is past what a run can reach, it stops there

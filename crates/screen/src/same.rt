@@ -2,11 +2,11 @@
 ghost use mathlib.Core.Path.{_≡_};
 ghost use Rattle.chip.specs.Lists.{same};
 ghost use Rattle.screen.specs.Same as spec;
+use answer::answers::Answer;
+use answer::conditions::condition_number;
+use answer::conditions::polarity_number;
+use answer::conditions::repaired_bit;
 use chip::state::Tallies;
-use row::answer::Answer;
-use row::conditions::condition_number;
-use row::conditions::polarity_number;
-use row::conditions::repaired_bit;
 
 // Whether two answers say the same of the row.
 fn same_said(a: Answer, b: Answer) -> bool

@@ -10,7 +10,7 @@ use borrow.Author.Tests.{le-leb, leb-true, leb-false}
 use lib.Dec.{eqb, leb}
 use lib.ListN.{length, getD, take, drop, length-drop, drop-of-length-le}
 use lib.Seq.{drop-cons, take-nil}
-use Rattle.row.specs.Choice.{if_then_else_}
+use Rattle.answer.specs.Choice.{if_then_else_}
 use Rattle.chip.specs.Lists.{same}
 use Rattle.text.specs.Words.{upTo, placeOf, partOf}
 

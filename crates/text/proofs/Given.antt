@@ -8,8 +8,8 @@ use native.Mathlib.Nat.{zero-add}
 use native.Mathlib.Omega.{arith}
 use lib.ListN.{length, set, length-append}
 use lib.Seq.{set-comm}
-use Rattle.row.specs.Choice.{if_then_else_}
-use Rattle.row.proofs.Choices.{both-ways}
+use Rattle.answer.specs.Choice.{if_then_else_}
+use Rattle.answer.proofs.Choices.{both-ways}
 use Rattle.chip.specs.Lists.{same}
 use Rattle.form.specs.Entries as form
 use Rattle.form.specs.Writing.{headBytes, entryBytes, withBytes, withHead, withEntry, withEntries}

@@ -4,7 +4,7 @@ use mathlib.Core.Bool.{Bool, not, _||_}
 use mathlib.Core.List.{List, [], _∷_}
 use lib.Dec.{eqb, leb}
 use lib.ListN.{length, take, drop}
-use Rattle.row.specs.Choice.{if_then_else_}
+use Rattle.answer.specs.Choice.{if_then_else_}
 use Rattle.text.specs.declared.words.Span.{Span}
 use Rattle.text.specs.declared.words.Stop.{Stop}
 use Rattle.text.specs.declared.words.Stop.the-variants.{LineEnd, Comment, Blank, Word}

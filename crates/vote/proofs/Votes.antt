@@ -13,7 +13,7 @@ use lib.Dec.{leb, lit<}
 use lib.ListN.{length, getD, take}
 use lib.Pow.{high, low, mod-pow-add}
 use lib.Seq.{take-nil, take-all, length-take-le, getD-take}
-use Rattle.row.specs.Choice.{if_then_else_}
+use Rattle.answer.specs.Choice.{if_then_else_}
 use Rattle.row.specs.Code.{bitAt}
 use Rattle.row.proofs.Places.{bit-low}
 use Rattle.vote.specs.Voting.{holders, votedBit, votedBelow}

@@ -1,9 +1,9 @@
 -- What the screens tell of a row: what each caller may do with it, and the levels that decide it (document 01, "Keys", "Permission").
 use Prim.Native.Nat.{ℕ}
 use mathlib.Core.Bool.{Bool, true, false}
-use Rattle.row.specs.Choice.{if_then_else_}
-use Rattle.chip.specs.Keys.{hidden}
-use Rattle.chip.specs.Permission.{mayRead, mayWrite, callerLevel, rowKeyLevel}
+use Rattle.answer.specs.Choice.{if_then_else_}
+use Rattle.permit.specs.Keys.{hidden}
+use Rattle.permit.specs.Permission.{mayRead, mayWrite, callerLevel, rowKeyLevel}
 use Rattle.chip.specs.declared.state.State.{State}
 use Rattle.wording.specs.declared.levels.Levels.{Levels}
 use Rattle.wording.specs.declared.rights.Rights.{Rights}

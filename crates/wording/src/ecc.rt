@@ -1,8 +1,8 @@
 // What ECC reads of a row's bits, in a column of its own. Who may read the row is not asked (document 01, "A row with ECC").
+use answer::answers::Answer;
+use answer::answers::Condition;
 use chip::pages::Page;
-use row::answer::Answer;
-use row::answer::Condition;
-use row::reading::read_row;
+use decode::reading::read_row;
 use screen::print;
 
 // The width of the widest, "0x0001 flag worn bit 12", and a blank behind it.

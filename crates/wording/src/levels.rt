@@ -4,9 +4,9 @@ ghost use Rattle.wording.specs.Rights as spec;
 use crate::callers;
 use chip::callers::BOOTLOADER;
 use chip::callers::SECURE;
-use chip::permission::caller_level;
-use chip::permission::row_key_level;
 use chip::state::State;
+use permit::permission::caller_level;
+use permit::permission::row_key_level;
 use screen::print;
 
 // The levels of a row's page: the caller's own, Secure's, and the key level.

@@ -4,10 +4,10 @@ ghost use Rattle.wording.specs.Rights as spec;
 use chip::callers::BOOTLOADER;
 use chip::callers::NONSECURE;
 use chip::callers::SECURE;
-use chip::keys::hidden;
-use chip::permission::may_read;
-use chip::permission::may_write;
 use chip::state::State;
+use permit::keys::hidden;
+use permit::permission::may_read;
+use permit::permission::may_write;
 
 // Of each caller: 0 nothing, 1 read, 2 read and write.
 pub struct Rights {

@@ -4,7 +4,7 @@ use crate::read_lines::clean;
 use crate::read_lines::reads;
 use crate::samples::SAMPLES;
 use crate::samples::Sample;
-use row::answer::Polarity;
+use answer::answers::Polarity;
 use row::coding::code;
 use row::coding::inverted;
 use row::coding::plain;

@@ -10,8 +10,8 @@ use crate::read_lines::worn;
 use crate::read_lines::worn_and_repaired;
 use crate::samples::SAMPLES;
 use crate::samples::Sample;
-use row::answer::Answer;
-use row::answer::Polarity;
+use answer::answers::Answer;
+use answer::answers::Polarity;
 use screen::tally;
 use screen::tally::Tally;
 

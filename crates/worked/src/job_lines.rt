@@ -1,8 +1,8 @@
 // Jobs on a board: the board, and a line of the table for each run (document 01, "Jobs").
 use crate::print;
+use answer::answers::Answer;
 use chip::state::State;
 use latch::resetting::reset;
-use row::answer::Answer;
 use screen::tally;
 use screen::tally::Tally;
 

@@ -1,9 +1,9 @@
 // What a read must answer, whether an answer is that, and the line that says so.
 use crate::print;
-use row::answer::Answer;
-use row::answer::Condition;
-use row::answer::Polarity;
-use row::reading::read_row;
+use answer::answers::Answer;
+use answer::answers::Condition;
+use answer::answers::Polarity;
+use decode::reading::read_row;
 use screen::same::same_answer;
 use screen::tally;
 use screen::tally::Tally;

@@ -8,7 +8,7 @@ use crate::read_lines::repaired;
 use crate::write_lines::burnt;
 use crate::write_lines::ecc_line;
 use crate::write_lines::kept;
-use row::answer::Polarity;
+use answer::answers::Polarity;
 use row::coding::code;
 use screen::tally;
 use screen::tally::Tally;

@@ -3,8 +3,8 @@
 use borrow.Author.Needs.{needs}
 use denote.Ref.{now}
 use mathlib.Core.Path.{_∙_}
-use Rattle.row.proofs.Ladders.{refusing}
-use Rattle.chip.specs.Permission.{mayRead}
+use Rattle.answer.proofs.Ladders.{refusing}
+use Rattle.permit.specs.Permission.{mayRead}
 use Rattle.chip.specs.Slices.{rowAt}
 use Rattle.access.specs.Judging.{ecc, noValue, rowRungs, callRungs}
 use Rattle.access.specs.Reads.{readEcc}

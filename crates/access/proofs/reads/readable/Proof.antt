@@ -3,7 +3,7 @@
 use borrow.Author.Needs.{needs}
 use mathlib.Core.Path.{ap, _∙_}
 use borrow.Author.Tests.{eq-eqb, ne-eqb}
-use Rattle.row.specs.Answers.{told}
+use Rattle.answer.specs.Answers.{told}
 use Rattle.access.proofs.reads.readable.Statement.{statement}
 use Rattle.access.proofs.reads.readable.Tie as tie
 

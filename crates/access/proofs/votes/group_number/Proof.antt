@@ -7,7 +7,7 @@ use mathlib.Core.Path.{_≡_, sym, ap, _∙_}
 use Prim.Native.Nat.{_+_, _-_, _≤_}
 use native.Mathlib.Nat.{add-zero, sub-zero}
 use native.Mathlib.Omega.{arith}
-use Rattle.row.specs.Rungs.{firstOf}
+use Rattle.answer.specs.Rungs.{firstOf}
 use Rattle.access.specs.Judging.{rowRungs}
 use Rattle.access.specs.Votes.{groupRungs}
 use Rattle.access.proofs.Upward.{upward-next, upward-stops, upward-end}

@@ -7,7 +7,7 @@ use borrow.Author.Tests.{eq-eqb, ne-eqb}
 use Prim.Native.Nat.{ℕ}
 use lib.ListN.{take}
 use mathlib.Core.List.{List}
-use Rattle.row.specs.Answers.{told}
+use Rattle.answer.specs.Answers.{told}
 use Rattle.vote.specs.Voting.{vote}
 use Rattle.access.specs.Votes.{readVote}
 use Rattle.access.proofs.Passing.{vote-passed}

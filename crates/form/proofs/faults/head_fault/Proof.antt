@@ -9,7 +9,7 @@ use Prim.Native.Nat.{ℕ, _+_, _*_}
 use borrow.Author.Tests.{lt-ltb, le-ltb, eq-eqb, ne-eqb, not-true, not-false}
 use lib.Dec.{eqb, ltb}
 use lib.ListN.{length}
-use Rattle.row.specs.Choice.{if_then_else_}
+use Rattle.answer.specs.Choice.{if_then_else_}
 use Rattle.form.specs.Faults.{headFault}
 use Rattle.form.specs.declared.faults.Fault.the-variants.{Sound, Count, Length}
 use Rattle.form.proofs.faults.head_fault.Statement.{statement}

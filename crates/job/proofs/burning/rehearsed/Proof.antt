@@ -15,7 +15,7 @@ use Rattle.chip.specs.Tallies.{_gains_, withGain, withGains}
 use Rattle.form.specs.Entries.{entryAt, entriesFrom}
 use Rattle.form.specs.declared.entries.Entry.{Entry}
 use Rattle.job.specs.Burning.{Progress, writtenOver, withEntry, cutGained, rehearsed}
-use Rattle.job.specs.Verdicts.{entryWritten}
+use Rattle.judge.specs.Verdicts.{entryWritten}
 use Rattle.chip.proofs.PageBits.{length-gains}
 use Rattle.form.proofs.Upward.{all-left}
 use Rattle.job.proofs.Ahead.{Ahead, none-ahead, one-ahead, burn-next, burn-stops, burn-ends, cut-next}

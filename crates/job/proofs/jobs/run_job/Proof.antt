@@ -3,7 +3,7 @@
 use borrow.Author.Needs.{needs}
 use denote.Ref.{now}
 use mathlib.Core.Path.{ap, _∙_}
-use Rattle.access.specs.Burning.{Left}
+use Rattle.burn.specs.Burning.{Left}
 use Rattle.job.proofs.Whole.{whole-job}
 use Rattle.job.proofs.jobs.run_job.Statement.{statement}
 use Rattle.job.proofs.jobs.run_job.Tie as tie

@@ -8,9 +8,9 @@ use Prim.Native.Nat.{ℕ, _+_, _-_, _%_, _≤_}
 use native.Mathlib.Omega.{arith}
 use lib.ListN.{length, take, set, length-set}
 use native.Mathlib.Nat.{mod-eq-of-lt}
-use Rattle.chip.specs.Keys.{keyRow}
-use Rattle.row.specs.declared.answer.Answer.{Answer}
-use Rattle.row.proofs.Syndromes.{read-lt}
+use Rattle.permit.specs.Keys.{keyRow}
+use Rattle.answer.specs.declared.answers.Answer.{Answer}
+use Rattle.decode.proofs.Syndromes.{read-lt}
 use Rattle.chip.specs.Lists.{listed}
 use Rattle.chip.specs.Slices.{rowAt}
 use Rattle.chip.proofs.Lists.{listed-more, listed-all}

@@ -1,4 +1,4 @@
--- `otp::calls::otp_advance` meets its contract: by those of `latch::calls::advance` and `flat_outcome`.
+-- `otp::calls::otp_advance` meets its contract: by those of `lock::calls::advance` and `flat_outcome`.
 -- Assumes nothing.
 use borrow.Author.Needs.{needs}
 use mathlib.Core.Path.{ap, _∙_}

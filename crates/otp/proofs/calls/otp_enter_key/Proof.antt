@@ -1,4 +1,4 @@
--- `otp::calls::otp_enter_key` meets its contract: by those of `latch::calls::enter_key` and `flat_outcome`.
+-- `otp::calls::otp_enter_key` meets its contract: by those of `lock::calls::enter_key` and `flat_outcome`.
 -- Assumes nothing.
 use borrow.Author.Needs.{needs}
 use mathlib.Core.Path.{ap, _∙_}

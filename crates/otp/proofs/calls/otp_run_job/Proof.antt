@@ -4,7 +4,7 @@
 use borrow.Author.Needs.{needs}
 use denote.Ref.{now}
 use mathlib.Core.Path.{ap, _∙_}
-use Rattle.access.specs.Burning.{Left}
+use Rattle.burn.specs.Burning.{Left}
 use Rattle.job.proofs.Whole.{whole-job}
 use Rattle.otp.specs.Flat.{flatOutcome}
 use Rattle.otp.proofs.calls.otp_run_job.Statement.{statement}

@@ -1,4 +1,4 @@
--- `otp::calls::otp_show` meets its contract: by those of `latch::calls::show` and `flat_answer`.
+-- `otp::calls::otp_show` meets its contract: by those of `lock::calls::show` and `flat_answer`.
 -- Assumes nothing.
 use borrow.Author.Needs.{needs}
 use mathlib.Core.Path.{ap, _∙_}

@@ -1,4 +1,4 @@
--- `otp::calls::otp_write_raw` meets its contract: by those of `access::writes::write_raw` and `flat_outcome`.
+-- `otp::calls::otp_write_raw` meets its contract: by those of `burn::writes::write_raw` and `flat_outcome`.
 -- Assumes nothing.
 use borrow.Author.Needs.{needs}
 use mathlib.Core.Path.{ap, _∙_}

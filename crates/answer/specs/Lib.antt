@@ -1,0 +1,4 @@
+pub mod Choice
+pub mod Answers
+pub mod Conditions
+pub mod Rungs

@@ -1,0 +1,2 @@
+pub mod Burning
+pub mod Writes
