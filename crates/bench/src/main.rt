@@ -1,12 +1,12 @@
 // The bench crew's command: rehearse a job on an image of a chip, read a row, show the pages, dump or compare images, list worn rows,
 // list or write a job, show the code of a value.
 // The script ./otp at the root runs it, and turns the last line that it writes into an exit status.
-mod help;
-
+use console::ended;
 use console::usage;
 use console::word;
 use doing::rehearse;
 use doing::write;
+use help::page;
 use looking::code;
 use looking::compare;
 use looking::dump;
@@ -15,38 +15,67 @@ use looking::wear;
 use reading::pages;
 use reading::read;
 
+// The page names no file.
+fn help() {
+    if !word::naming() {
+        page::show();
+    }
+    ended::answered(0);
+}
+
 fn look(command: usize) {
+    if word::is(command, b"code") {
+        code::run();
+        return;
+    }
+    if word::is(command, b"compare") {
+        compare::run();
+        return;
+    }
+    if word::is(command, b"dump") {
+        dump::run();
+        return;
+    }
+    if word::is(command, b"wear") {
+        wear::run();
+        return;
+    }
+    if word::is(command, b"list") {
+        list::run();
+        return;
+    }
+    usage::no_command();
+}
+
+fn show(command: usize) {
     if word::is(command, b"read") {
         read::run();
-    } else if word::is(command, b"pages") {
-        pages::run();
-    } else if word::is(command, b"code") {
-        code::run();
-    } else if word::is(command, b"compare") {
-        compare::run();
-    } else if word::is(command, b"dump") {
-        dump::run();
-    } else if word::is(command, b"wear") {
-        wear::run();
-    } else if word::is(command, b"list") {
-        list::run();
-    } else {
-        usage::no_command();
+        return;
     }
+    if word::is(command, b"pages") {
+        pages::run();
+        return;
+    }
+    look(command);
+}
+
+fn asks_for_help(command: usize) -> bool {
+    word::is(command, b"help") || word::is(command, b"--help") || word::is(command, b"-h")
 }
 
 fn main() {
     let command = word::command();
     if word::is(command, b"rehearse") {
         rehearse::run();
-    } else if word::is(command, b"write") {
-        write::run();
-    } else if word::is(command, b"help")
-        || word::is(command, b"--help")
-        || word::is(command, b"-h")
-    {
-        help::run();
-    } else {
-        look(command);
+        return;
     }
+    if word::is(command, b"write") {
+        write::run();
+        return;
+    }
+    if asks_for_help(command) {
+        help();
+        return;
+    }
+    show(command);
 }

@@ -5,7 +5,7 @@ use chip::pages::Page;
 use console::options::Words;
 use console::usage;
 use console::word;
-use text::numbers::Number;
+use typed::numbers::Number;
 
 // The rows from `first` on, as far as the one before `past`; where `held`, only those of them that hold bits.
 pub struct Range {

@@ -4,13 +4,13 @@ ghost use mathlib.Core.List.{[], _∷_};
 ghost use mathlib.Core.Path.{_≡_};
 ghost use Prim.Native.Nat.{_≤_};
 ghost use Rattle.chip.specs.Lists.{same as sameLists};
-ghost use Rattle.text.specs.Numbers.{numberOf, spellsKey, keyAfter};
+ghost use Rattle.typed.specs.Numbers.{numberOf, spellsKey, keyAfter};
 ghost use Rattle.console.specs.Given.{Some};
 use crate::shown;
-use text::numbers::Number;
-use text::numbers::key_of;
-use text::numbers::of_text;
-use text::words::same;
+use typed::numbers::Number;
+use typed::numbers::key_of;
+use typed::numbers::of_text;
+use typed::words::same;
 
 // Whether a word is the one named, which is shorter than 16 bytes.
 pub fn is(place: usize, name: &[u8]) -> bool

@@ -5,9 +5,9 @@ use libc::STDOUT_FILENO;
 use screen::print;
 use text::entries::Why;
 use text::jobs::Reading;
-use text::words::line_at;
-use text::words::part;
-use text::words::word;
+use typed::words::line_at;
+use typed::words::part;
+use typed::words::word;
 
 // No word that fits has a byte that is not to be seen, so each such byte is made visible.
 fn byte(code: u8) {

@@ -19,7 +19,7 @@ use screen::print;
 use screen::tally::sum;
 use text::entries::Why;
 use text::jobs::read;
-use text::words::part;
+use typed::words::part;
 
 // Room for one entry more than a job has, so that the library can say that it is too many: 7 bytes, and 6 for each of 513 entries.
 type Room = [u8; 3085];

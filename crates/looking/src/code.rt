@@ -10,7 +10,7 @@ use row::coding::code;
 use row::coding::inverted;
 use row::coding::plain;
 use screen::print;
-use text::numbers::Number;
+use typed::numbers::Number;
 use wording::refusals;
 
 fn row_line(name: &[u8], row: u32) {

@@ -14,7 +14,7 @@ use form::faults::fault_of;
 use row::coding::inverted;
 use row::coding::plain;
 use screen::print;
-use text::words::part;
+use typed::words::part;
 use wording::job_refusals;
 
 // "ecc 320       # 0x0140, plain 0x050140, inverted 0xfafebf"

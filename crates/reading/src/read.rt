@@ -21,7 +21,7 @@ use console::usage::Given;
 use console::usage::asked;
 use console::word;
 use screen::print;
-use text::numbers::Number;
+use typed::numbers::Number;
 use wording::callers;
 use wording::condition;
 use wording::levels;

@@ -16,10 +16,10 @@ use Rattle.form.specs.Writing.{headBytes, entryBytes, withBytes, withHead, with
 use Rattle.form.specs.declared.entries.Entry as entry
 use Rattle.form.proofs.WholeJob.{AllFit, job-entries}
 use Rattle.text.specs.Lines.{isCut, numberAt, ecc, raw, entryOf, withValue, withKind, withRow, hasWord, lineOf}
-use Rattle.text.specs.Words.{wordOf}
+use Rattle.typed.specs.Words.{wordOf}
 use Rattle.text.specs.Jobs.{begun, passed, stopped, nextOf, readBy, entryBy, goesOn, readFrom, entriesFrom, mostLines, readingOf, entriesOf}
-use Rattle.text.specs.declared.numbers.Number.{Number}
-use Rattle.text.specs.declared.numbers.Number.the-variants.{Is, Not}
+use Rattle.typed.specs.declared.numbers.Number.{Number}
+use Rattle.typed.specs.declared.numbers.Number.the-variants.{Is, Not}
 use Rattle.text.specs.declared.entries.Line.{Line}
 use Rattle.text.specs.declared.entries.Line.the-variants.{Empty, Entry, Wrong}
 use Rattle.text.specs.declared.entries.Why.the-variants as why

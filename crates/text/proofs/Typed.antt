@@ -4,10 +4,10 @@ use mathlib.Core.Path.{_≡_, refl}
 use mathlib.Core.List.{List, [], _∷_}
 use Prim.Native.Nat.{ℕ}
 use Rattle.chip.specs.Lists.{listed, same}
-use Rattle.text.specs.Numbers.{digitOf, digitsBelow, valueWith, numberIn, hexadecimal, numberOf, keyOf}
-use Rattle.text.specs.Words.{upTo, placeOf, lineAt, nextLine, wordFrom, wordAt}
+use Rattle.typed.specs.Numbers.{digitOf, digitsBelow, valueWith, numberIn, hexadecimal, numberOf, keyOf}
+use Rattle.typed.specs.Words.{upTo, placeOf, lineAt, nextLine, wordFrom, wordAt}
 use Rattle.text.specs.Lines.{entryOf, withKind, lineOf}
-use Rattle.text.specs.declared.numbers.Number.the-variants.{Is, Not}
+use Rattle.typed.specs.declared.numbers.Number.the-variants.{Is, Not}
 use Rattle.text.specs.declared.entries.Line.the-variants.{Entry, Wrong}
 use Rattle.text.specs.declared.entries.Why.the-variants as why
 

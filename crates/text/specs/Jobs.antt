@@ -7,7 +7,7 @@ use lib.ListN.{length}
 use Rattle.answer.specs.Choice.{if_then_else_}
 use Rattle.form.specs.declared.entries.Entry as form
 use Rattle.text.specs.Lines.{lineOf}
-use Rattle.text.specs.Words.{lineAt, nextLine}
+use Rattle.typed.specs.Words.{lineAt, nextLine}
 use Rattle.text.specs.declared.entries.Line.{Line}
 use Rattle.text.specs.declared.entries.Line.the-variants.{Empty, Entry, Wrong}
 use Rattle.text.specs.declared.entries.Why.{Why}

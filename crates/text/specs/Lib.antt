@@ -1,4 +1,2 @@
 pub mod Jobs
 pub mod Lines
-pub mod Numbers
-pub mod Words

@@ -5,10 +5,10 @@ use mathlib.Core.List.{List, [], _∷_}
 use lib.Dec.{eqb, ltb}
 use Rattle.answer.specs.Choice.{if_then_else_}
 use Rattle.chip.specs.Lists.{same}
-use Rattle.text.specs.Numbers.{numberOf}
-use Rattle.text.specs.Words.{wordAt, wordOf}
-use Rattle.text.specs.declared.numbers.Number.{Number}
-use Rattle.text.specs.declared.numbers.Number.the-variants.{Is, Not}
+use Rattle.typed.specs.Numbers.{numberOf}
+use Rattle.typed.specs.Words.{wordAt, wordOf}
+use Rattle.typed.specs.declared.numbers.Number.{Number}
+use Rattle.typed.specs.declared.numbers.Number.the-variants.{Is, Not}
 use Rattle.text.specs.declared.entries.Line.{Line}
 use Rattle.text.specs.declared.entries.Line.the-variants.{Empty, Entry, Wrong}
 use Rattle.text.specs.declared.entries.Why.the-variants as why

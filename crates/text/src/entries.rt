@@ -3,13 +3,13 @@ ghost use mathlib.Core.Path.{_≡_};
 ghost use Prim.Native.Nat.{min};
 ghost use Rattle.chip.specs.Lists.{same};
 ghost use Rattle.text.specs.Lines as spec;
-ghost use Rattle.text.specs.Words.{wordOf};
-use crate::numbers;
-use crate::numbers::Number;
-use crate::words::part;
-use crate::words::same;
-use crate::words::word;
+ghost use Rattle.typed.specs.Words.{wordOf};
 use form::entries::Entry;
+use typed::numbers;
+use typed::numbers::Number;
+use typed::words::part;
+use typed::words::same;
+use typed::words::word;
 
 // What is wrong with a word of a text. The last four are what the library finds wrong with the job that the text gives.
 pub enum Why {

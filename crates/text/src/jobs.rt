@@ -6,9 +6,9 @@ ghost use Rattle.text.specs.Jobs as spec;
 use crate::entries;
 use crate::entries::Line;
 use crate::entries::Why;
-use crate::words::line_at;
-use crate::words::next_line;
 use form::writing::put_entry;
+use typed::words::line_at;
+use typed::words::next_line;
 
 // How far a text is read: the line that was read last, where it and the next begin, the entries so far, and what is wrong with which
 // word of the line. Once `going` is false, nothing more is read.

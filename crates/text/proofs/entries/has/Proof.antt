@@ -3,7 +3,7 @@
 use borrow.Author.Needs.{needs}
 use mathlib.Core.Path.{ap}
 use lib.Dec.{ltb}
-use Rattle.text.specs.declared.words.Span.{Span}
+use Rattle.typed.specs.declared.words.Span.{Span}
 use Rattle.text.proofs.entries.has.Statement.{statement}
 use Rattle.text.proofs.entries.has.Tie as tie
 

@@ -6,8 +6,8 @@ use mathlib.Core.List.{List}
 use mathlib.Core.Path.{ap, _∙_}
 use Prim.Native.Nat.{ℕ}
 use Rattle.chip.specs.Lists.{same}
-use Rattle.text.specs.Words.{partOf}
-use Rattle.text.specs.declared.words.Span.{Span}
+use Rattle.typed.specs.Words.{partOf}
+use Rattle.typed.specs.declared.words.Span.{Span}
 use Rattle.text.proofs.entries.is.Statement.{statement}
 use Rattle.text.proofs.entries.is.Tie as tie
 

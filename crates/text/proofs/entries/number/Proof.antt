@@ -3,9 +3,9 @@
 use borrow.Author.Needs.{needs}
 use denote.Ref.{now}
 use mathlib.Core.Path.{ap, _∙_}
-use Rattle.text.specs.Numbers.{numberOf}
-use Rattle.text.specs.Words.{partOf}
-use Rattle.text.specs.declared.words.Span.{Span}
+use Rattle.typed.specs.Numbers.{numberOf}
+use Rattle.typed.specs.Words.{partOf}
+use Rattle.typed.specs.declared.words.Span.{Span}
 use Rattle.text.proofs.entries.number.Statement.{statement}
 use Rattle.text.proofs.entries.number.Tie as tie
 
