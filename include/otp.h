@@ -111,7 +111,7 @@ enum {
     OTP_REFUSED_CODE = 8,     /* ECC read: no value has a code within one bit */
     OTP_REFUSED_FIT = 9,      /* ECC write: neither polarity fits over the bits already set */
     OTP_REFUSED_JOB = 10,     /* the job's bytes are malformed */
-    OTP_REFUSED_ORDER = 11    /* a job's row is from 0xf40 up, or not above the row before it */
+    OTP_REFUSED_ORDER = 11    /* a job's row is out of place, by the rule of its version */
 };
 
 /* What every call answers. A field that a call has no use for is 0. */
@@ -242,8 +242,10 @@ otp_answer  otp_show(otp_state state, uint32_t caller, uint32_t domain, uint32_t
 otp_outcome otp_enter_key(otp_state state, uint32_t caller, const uint8_t *key, uint64_t key_len);
 
 /* Runs a job as Secure. All of it is judged before the first bit is burnt, so a job is burnt whole or not at all.
-   Its bytes, low byte first in each number: 4F 54 4A, a 16-bit version, which is 1, a 16-bit count of 0 to 512, then as many entries
-   of six bytes, a 16-bit row, a kind (0 ECC, 1 raw) and a 24-bit value. Rows ascend and stay below 0xf40.
+   Its bytes, low byte first in each number: 4F 54 4A, a 16-bit version, 1 or 2, a 16-bit count of 0 to 512, then as many entries of
+   six bytes, a 16-bit row, a kind (0 ECC, 1 raw) and a 24-bit value. Rows ascend. In version 1 they stay below 0xf40. In version 2 lock
+   rows may follow, from 0xf80 on, as raw entries: once one of them has changed, the next reset may latch that the job is refused with 7,
+   and its data rows are finished.
    Numbers 0, 1, 10, 11, then entry by entry 7, 3, 9. */
 otp_outcome otp_run_job(uint32_t *rows, uint64_t rows_len, otp_state state, const uint8_t *job, uint64_t job_len);
 

@@ -23,7 +23,7 @@ impl Page {
     // The last row of a chip.
     pub const LAST_ROW: u32 = 4095;
 
-    // From here up no job writes: the keys, their valid flags and the lock words.
+    // Past the data rows: the keys, their valid flags and the lock words.
     pub const FIRST_KEPT_ROW: u32 = 0xf40;
 
     // The first row of key 1. Each key has eight.

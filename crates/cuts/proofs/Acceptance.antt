@@ -15,14 +15,15 @@ use Rattle.latch.specs.Resetting.{allInRange}
 use Rattle.burn.specs.Burning.{burnt}
 use Rattle.access.proofs.Passing.{whole}
 use Rattle.form.specs.Entries.{countOf, entryAt, entriesFrom, entriesOf}
-use Rattle.form.specs.Faults.{faultNumber, orderFault, orderFaults, faultOf}
+use Rattle.form.specs.Faults.{rowFault, orderFaults, ruleOf, faultOf}
 use Rattle.form.specs.declared.entries.Entry.{Entry}
 use Rattle.form.specs.declared.faults.Fault.the-variants.{Sound}
 use Rattle.job.specs.Burning.{Progress, allWritten, allPulses, allGained}
 use Rattle.job.specs.Jobs.{carriedOut, runJob}
 use Rattle.judge.specs.Verdicts.{entryRungs, allRungs, verdictOf}
 use Rattle.judge.specs.declared.verdicts.Verdict.{Verdict}
-use Rattle.form.proofs.Faulty.{both-sound, order-kept, order-sound}
+use Rattle.form.proofs.Faulty.{both-sound, order-sound}
+use Rattle.form.proofs.Placed.{row-kept}
 use Rattle.judge.proofs.Upward.{entry-next, entry-none}
 use Rattle.job.proofs.Whole.{finished, accepted}
 use Rattle.cuts.specs.Cuts.{Keyed, ready, Bytes, acceptedOn}
@@ -38,18 +39,18 @@ value-small job bytes i =
     omega (arith, bytes at, bytes (at + 1), bytes (at + 2))
 
 module _ (rows : List ℕ) (state : State) where
-  judged-admitted : (job : List ℕ) → Bytes job → (n i at least : ℕ) → orderFaults at least (entriesFrom job i n) ≡ Sound
+  judged-admitted : (job : List ℕ) → Bytes job → (version n i at least : ℕ) → orderFaults version at least (entriesFrom job i n) ≡ Sound
       → firstOf (allRungs rows state at (entriesFrom job i n)) ≡ 0 → Admitted rows state least (entriesFrom job i n)
   unfolding entriesFrom orderFaults allRungs entryRungs
-  judged-admitted job bytes zero i at least order done = Admitted.none
-  judged-admitted job bytes (suc n) i at least order done =
+  judged-admitted job bytes version zero i at least order done = Admitted.none
+  judged-admitted job bytes version (suc n) i at least order done =
       let e : Entry = entryAt job i in
-      let rising = both-sound (orderFault at least e) (orderFaults (at + 1) (e .row + 1) (entriesFrom job (suc i) n)) order in
-      let inside = order-kept at least e (ap faultNumber (rising .0)) in
+      let rising = both-sound (rowFault version at least e) (orderFaults version (at + 1) (e .row + 1) (entriesFrom job (suc i) n)) order in
+      let inside = row-kept version at least e (rising .0) in
       let judged =
       entry-none rows (mayWrite state 0 (e .row)) at e (allRungs rows state (at + 1) (entriesFrom job (suc i) n)) done in
       Admitted.more {e = e} (inside .1) (inside .0) (value-small job bytes i) (judged .0)
-      (judged-admitted job bytes n (suc i) (at + 1) (e .row + 1) (rising .1) (judged .1))
+      (judged-admitted job bytes version n (suc i) (at + 1) (e .row + 1) (rising .1) (judged .1))
 
   admitted-judged : {least : ℕ} {es : List Entry} (at : ℕ) → Admitted rows state least es → firstOf (allRungs rows state at es) ≡ 0
   unfolding allRungs entryRungs
@@ -102,7 +103,7 @@ pub accepted-by : (rows : List ℕ) (state : State) (job : List ℕ) → Bytes j
     → (length rows ≡ 4096) × (faultOf job ≡ Sound) × Admitted rows state 0 (entriesOf job)
 accepted-by rows state job bytes done =
     let parts = accepted rows state job done in
-    (whole rows (parts .0), parts .1, judged-admitted rows state job bytes _ 0 0 0 (order-sound job (parts .1)) (parts .2))
+    (whole rows (parts .0), parts .1, judged-admitted rows state job bytes (ruleOf job) _ 0 0 0 (order-sound job (parts .1)) (parts .2))
 
 pub accepted-on : (rows : List ℕ) (before : State) (key : Keyed) (job : List ℕ) → Bytes job → acceptedOn rows before key job
     → Accepted rows (ready rows before key) job

@@ -25,6 +25,7 @@ use Rattle.access.specs.Judging.{raw, callRungs}
 use Rattle.burn.specs.Writes.{writeRawNumber, writeEccNumber, writeRaw, writeEcc}
 use Rattle.access.proofs.Passing.{whole, call-passed}
 use Rattle.form.specs.Entries.{entryAt, entriesFrom, entriesOf}
+use Rattle.form.specs.Faults.{ruleOf}
 use Rattle.form.specs.declared.entries.Entry.{Entry}
 use Rattle.job.specs.Burning.{Progress, writtenOver, withEntry, cutGained, rehearsed}
 use Rattle.job.specs.Jobs.{runJob, rehearse}
@@ -137,7 +138,7 @@ module _ (rows : List ℕ) (state : State) where
       rw (carried (verdictOf rows state job) rows state (rehearsed rows limit (entriesOf job)) none) record {
         long = whole rows (parts .0);
         tallies = refl;
-        burnt = entries-gain (entriesOf job) rows limit (sound-rising (entriesOf job) 0 0 (order-sound job (parts .1)));
+        burnt = entries-gain (entriesOf job) rows limit (sound-rising (ruleOf job) (entriesOf job) 0 0 (order-sound job (parts .1)));
       }
 
   -- a job is a rehearsal with enough pulses

@@ -4,7 +4,10 @@ pub mod Rising
 pub mod Rewriting
 pub mod Ranges
 pub mod Acceptance
+pub mod DataRows
 pub mod CutPower
+pub mod Locked
+pub mod Versions
 pub mod RehearsalCut
 pub mod Pulses
 pub mod Places

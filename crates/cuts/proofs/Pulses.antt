@@ -19,6 +19,7 @@ use Rattle.form.specs.Entries.{entriesOf}
 use Rattle.job.specs.Burning.{rehearsed}
 use Rattle.job.specs.Jobs.{runJob, rehearse}
 use Rattle.judge.specs.Verdicts.{verdictOf}
+use Rattle.form.specs.Faults.{ruleOf}
 use Rattle.form.proofs.Faulty.{order-sound}
 use Rattle.job.proofs.Whole.{accepted, whole-job}
 use Rattle.laws.specs.Calls.{perform}
@@ -50,7 +51,7 @@ module _ (rows : List ℕ) (state : State) where
       let none = carried-number (verdictOf rows state job) rows state (rehearsed rows limit (entriesOf job)) done in
       let parts = accepted rows state job none in
       rw (carried (verdictOf rows state job) rows state (rehearsed rows limit (entriesOf job)) none)
-      (rehearsed-cut limit (entriesOf job) (whole rows (parts .0)) (sound-rising (entriesOf job) 0 0 (order-sound job (parts .1))) .1)
+      (rehearsed-cut limit (entriesOf job) (whole rows (parts .0)) (sound-rising (ruleOf job) (entriesOf job) 0 0 (order-sound job (parts .1))) .1)
 
   -- a job is a rehearsal with enough pulses
   job-counted : (job : List ℕ) → runJob rows state job .outcome .answer .number ≡ 0 → Counted rows (runJob rows state job)

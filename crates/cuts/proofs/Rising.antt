@@ -2,7 +2,7 @@
 -- Assumes nothing.
 use mathlib.Core.Bool.{Bool, true, false}
 use mathlib.Core.List.{List, [], _∷_}
-use mathlib.Core.Path.{_≡_, refl, ap, _∙_}
+use mathlib.Core.Path.{_≡_, refl, _∙_}
 use Prim.Native.Nat.{ℕ, zero, suc, _+_, _-_, _≤_, _<_}
 use native.Mathlib.Omega.{arith}
 use borrow.Author.Tests.{eqb-true, eqb-false}
@@ -11,25 +11,26 @@ use lib.ListN.{set}
 use lib.Seq.{getD-set-other}
 use Rattle.chip.specs.Slices.{rowAt}
 use Rattle.form.specs.Entries.{entryAt, entriesFrom}
-use Rattle.form.specs.Faults.{faultNumber, orderFault, orderFaults}
+use Rattle.form.specs.Faults.{rowFault, orderFaults}
 use Rattle.form.specs.declared.entries.Entry.{Entry}
 use Rattle.form.specs.declared.faults.Fault.the-variants.{Sound}
 use Rattle.job.specs.Burning.{Progress, writtenOver, withEntry, rehearsed}
-use Rattle.form.proofs.Faulty.{both-sound, order-kept}
+use Rattle.form.proofs.Faulty.{both-sound}
+use Rattle.form.proofs.Placed.{placed-low, row-kept}
 use Rattle.answer.proofs.Choices.{both-ways}
 
--- rows rise from the least, below 0xf40
+-- rows of the chip that rise from the least
 pub data Rising : ℕ → List Entry → Type 0 where
   none : {least : ℕ} → Rising least []
-  more : {least : ℕ} {e : Entry} {others : List Entry} → least ≤ e .row → e .row < 0xf40 → Rising (e .row + 1) others → Rising least (e ∷ others)
+  more : {least : ℕ} {e : Entry} {others : List Entry} → least ≤ e .row → e .row ≤ 4095 → Rising (e .row + 1) others → Rising least (e ∷ others)
 
-pub sound-rising : (es : List Entry) (at least : ℕ) → orderFaults at least es ≡ Sound → Rising least es
+pub sound-rising : (version : ℕ) (es : List Entry) (at least : ℕ) → orderFaults version at least es ≡ Sound → Rising least es
 unfolding orderFaults
-sound-rising [] at least e = none
-sound-rising (entry ∷ others) at least e =
-    let parts = both-sound (orderFault at least entry) (orderFaults (at + 1) (entry .row + 1) others) e in
-    let inside = order-kept at least entry (ap faultNumber (parts .0)) in
-    more (inside .1) (inside .0) (sound-rising others (at + 1) (entry .row + 1) (parts .1))
+sound-rising version [] at least e = none
+sound-rising version (entry ∷ others) at least e =
+    let parts = both-sound (rowFault version at least entry) (orderFaults version (at + 1) (entry .row + 1) others) e in
+    let inside = row-kept version at least entry (parts .0) in
+    more (inside .1) (placed-low entry (inside .0)) (sound-rising version others (at + 1) (entry .row + 1) (parts .1))
 
 -- each entry's row is from the least up
 pub rising-at : (job : List ℕ) (n i k least : ℕ) → Rising least (entriesFrom job i n) → i ≤ k → k < i + n → least ≤ entryAt job k .row

@@ -19,6 +19,7 @@ use Rattle.chip.specs.declared.state.State.{State}
 use Rattle.burn.specs.Burning.{Left}
 use Rattle.access.proofs.Passing.{whole}
 use Rattle.form.specs.Entries.{countOf, entryAt, entriesFrom, entriesOf}
+use Rattle.form.specs.Faults.{ruleOf}
 use Rattle.form.specs.declared.entries.Entry.{Entry}
 use Rattle.job.specs.Burning.{Progress, writtenOver, withEntry, rehearsed}
 use Rattle.job.specs.Jobs.{runJob, rehearse}
@@ -143,7 +144,7 @@ module _ (rows : List ℕ) (state : State) (job : List ℕ) where
       let p : Progress = rehearsed rows limit (entriesOf job) in
       let none = carried-number (verdictOf rows state job) rows state p done in
       let parts = accepted rows state job none in
-      let stands = stands-to job (countOf job) 0 rows limit (whole rows (parts .0)) (sound-rising (entriesOf job) 0 0 (order-sound job (parts .1))) in
+      let stands = stands-to job (countOf job) 0 rows limit (whole rows (parts .0)) (sound-rising (ruleOf job) (entriesOf job) 0 0 (order-sound job (parts .1))) in
       rw (carried (verdictOf rows state job) rows state p none) (
         place-few job (countOf job) 0 rows limit,
         λ i to. stands .0 i (omega arith) (omega arith),

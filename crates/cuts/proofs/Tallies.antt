@@ -14,11 +14,13 @@ use Rattle.chip.specs.declared.state.State.{State}
 use Rattle.chip.specs.declared.state.Outcome.{Outcome}
 use Rattle.lock.specs.Calls.{advanceNumber, advance, enterNumber, enterKey}
 use Rattle.latch.specs.Resetting.{latched, resetNumber, reset}
+use Rattle.form.specs.Entries.{versionOf}
 use Rattle.laws.specs.Calls.{Chip, Call, aReset, aRawRead, anEccRead, aVote, aRawWrite, anEccWrite, anAdvance, aShow, aKey, aJob, aRehearsal, perform, performAll}
-use Rattle.cuts.specs.Cuts.{Keyed, noKeyEntered, keyEntered, ready}
+use Rattle.cuts.specs.Cuts.{Keyed, noKeyEntered, keyEntered, ready, Completes}
 use Rattle.laws.specs.Promises.{Burns}
 use Rattle.cuts.specs.Tallies.{Tallied, TalliesStayRight, CutTallied, CutsLeaveTallies, OthersKeepTallies}
-use Rattle.cuts.proofs.CutPower.{cutPower}
+use Rattle.cuts.proofs.Acceptance.{ran-number}
+use Rattle.cuts.proofs.CutPower.{completes, cutPower}
 use Rattle.cuts.proofs.Gains.{stay-right}
 use Rattle.laws.proofs.Latches.{reset-state}
 use Rattle.laws.proofs.Refusals.{refusalKeeps}
@@ -109,11 +111,17 @@ cutTallied rows before key job limit done =
 
 pub cutsLeaveTallies : CutsLeaveTallies
 unfolding perform
-cutsLeaveTallies rows left before later key job spent bytes accept cuts =
-    let finished = cutPower rows left before later key job spent bytes accept cuts in
+cutsLeaveTallies rows left before later key job spent bytes accept cuts accepted-last =
+    let finished = go (eqb (versionOf job) 2) refl in
     call-right (record { rows = left; state = ready left later key }) (aJob job) (ready-right left later key (finished .0 .0))
     ∙ ap talliesOf (finished .1 ∙ sym (finished .2))
     ∙ sym (call-right (record { rows = rows; state = ready rows before key }) (aJob job) (ready-right rows before key (accept .0)))
+  where
+    go : (t : Bool) → eqb (versionOf job) 2 ≡ t → Completes rows left before later key job spent
+    go true two =
+        completes rows left before later key job spent bytes accept cuts
+        (ran-number left (ready left later key) job (accepted-last (eqb-true (versionOf job) 2 two) .1))
+    go false other = cutPower rows left before later key job spent bytes accept cuts (λ two. absurd (eqb-false (versionOf job) 2 other two))
 
 calls-right : (chip : Chip) (calls : List Call) → Tallied chip → Tallied (performAll chip calls)
 unfolding performAll

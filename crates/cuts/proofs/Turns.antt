@@ -2,11 +2,12 @@
 -- Assumes nothing.
 use mathlib.Core.Bool.{Bool, true, false, not}
 use mathlib.Core.List.{List, [], _∷_}
+use mathlib.Core.Logic.{⊎-elim}
 use mathlib.Core.Path.{_≡_, refl, sym, ap, _∙_, subst}
 use Prim.Native.Nat.{ℕ, _+_, _^_, _≤_, _<_}
 use native.Mathlib.Nat.{mod-eq-of-lt}
 use native.Mathlib.Omega.{arith}
-use borrow.Author.Tests.{le-ltb, lt-leb, eq-eqb, eqb-true}
+use borrow.Author.Tests.{le-ltb, le-leb, lt-leb, eq-eqb, eqb-true}
 use lib.Dec.{eqb, ltb}
 use lib.ListN.{length, set, length-set}
 use Rattle.answer.specs.Answers.{spent}
@@ -32,6 +33,7 @@ use Rattle.form.specs.declared.faults.Fault.the-variants.{Sound}
 use Rattle.job.specs.Burning.{writtenOver, withEntry, allWritten, allPulses, allGained}
 use Rattle.judge.specs.Verdicts.{entryWritten}
 use Rattle.form.proofs.Faulty.{both-sound, forms-sound, form-kept}
+use Rattle.form.proofs.Placed.{Placed}
 use Rattle.laws.specs.Calls.{Chip, Result, aRawWrite, anEccWrite, perform}
 use Rattle.cuts.specs.Jobs.{writeOf, EachDone, writesOf, EachInTurn}
 use Rattle.cuts.proofs.Acceptance.{ran-number, ran, accepted-by}
@@ -60,7 +62,15 @@ call-done rows state row coded valueTooLarge long high value may small = go code
     go false =
         rw (eq-eqb (length rows) 4096 long, value, le-ltb 4095 row (omega arith), lt-leb 0xf48 row (omega arith), may, le-ltb 16777215 (rowAt rows row) small)
 
-module _ (rows : List ℕ) (state : State) (e : Entry) (long : length rows ≡ 4096) (high : e .row < 0xf40) (small : e .value < 2 ^ 24)
+-- nor is a raw one of a lock row
+lock-done : (rows : List ℕ) (state : State) (row : ℕ) (valueTooLarge : Bool) → length rows ≡ 4096 → 0xf80 ≤ row → row ≤ 4095
+    → valueTooLarge ≡ false → not (mayWrite state 0 row) ≡ false → rowAt rows row ≤ 16777215
+    → firstOf (callRungs rows state 0 row raw valueTooLarge (mayWrite state 0 row)) ≡ 0
+unfolding callRungs rowRungs hidden
+lock-done rows state row valueTooLarge long from to value may small =
+    rw (eq-eqb (length rows) 4096 long, value, le-ltb 4095 row to, le-leb 0xf48 row (omega arith), le-ltb row 0xf78 (omega arith), may, le-ltb 16777215 (rowAt rows row) small)
+
+module _ (rows : List ℕ) (state : State) (e : Entry) (long : length rows ≡ 4096) (place : Placed e) (small : e .value < 2 ^ 24)
     (judged : entryNumber rows state e ≡ 0) (formed : e .kind ≡ 0 → e .value ≤ 65535) where
   abbrev old : ℕ
   old = rowAt rows (e .row)
@@ -76,8 +86,10 @@ module _ (rows : List ℕ) (state : State) (e : Entry) (long : length rows ≡ 4
   unfolding perform writeRaw
   raw-made =
       let parts = judged-done rows state e judged in
+      let value : ltb 16777215 (e .value) ≡ false = le-ltb 16777215 (e .value) (omega arith) in
       let none : writeRawNumber rows state 0 (e .row) (e .value) ≡ 0 =
-      call-done rows state (e .row) raw (ltb 16777215 (e .value)) long high (le-ltb 16777215 (e .value) (omega arith)) (parts .0) (parts .1) in
+      ⊎-elim (λ low. call-done rows state (e .row) raw _ long low value (parts .0) (parts .1))
+      (λ lock. lock-done rows state (e .row) _ long (lock .0) (lock .1) value (parts .0) (parts .1)) place in
       rw (eq-eqb (writeRawNumber rows state 0 (e .row) (e .value)) 0 none)
 
   ecc-made : e .kind ≡ 0 → perform (chipOf rows state) (anEccWrite 0 (e .row) (e .value)) ≡ made (eccWritten old (dataOf (e .value)))
@@ -85,7 +97,8 @@ module _ (rows : List ℕ) (state : State) (e : Entry) (long : length rows ≡ 4
   ecc-made coded =
       let parts = judged-done rows state e judged in
       let value : dataOf (e .value) ≡ e .value = mod-eq-of-lt (omega (arith, formed coded)) in
-      let first = call-done rows state (e .row) ecc (ltb 65535 (e .value)) long high (le-ltb 65535 (e .value) (formed coded)) (parts .0) (parts .1) in
+      let low : e .row < 0xf40 = ⊎-elim (λ data-row. data-row) (λ lock. absurd (lock .2 coded)) place in
+      let first = call-done rows state (e .row) ecc (ltb 65535 (e .value)) long low (le-ltb 65535 (e .value) (formed coded)) (parts .0) (parts .1) in
       let fits : eccWritten old (dataOf (e .value)) .number ≡ 0 = rw (eq-eqb (e .kind) 0 coded) at (parts .2) in
       let none : writeEccNumber rows state 0 (e .row) (e .value) ≡ 0 =
       then-rungs (callRungs rows state 0 (e .row) ecc (ltb 65535 (e .value)) (mayWrite state 0 (e .row))) (9 when neitherFits old (e .value) ∷ []) tt
@@ -113,10 +126,10 @@ in-turn : {least : ℕ} (es : List Entry) (at : ℕ) (rows : List ℕ) (state : 
     → Admitted rows state least es → EachDone (chipOf rows state) (writesOf es) (allPulses rows es) (leftBy es rows state)
 unfolding formFaults writesOf allPulses allWritten allGained
 in-turn [] at rows state long sound Admitted.none = EachDone.none
-in-turn (e ∷ others) at rows state long sound (Admitted.more low high small judged rest) =
+in-turn (e ∷ others) at rows state long sound (Admitted.more low place small judged rest) =
     let forms = both-sound (formFault at e) (formFaults (at + 1) others) sound in
     let new : ℕ = writtenOver rows e .row in
-    let write = entry-made rows state e long high small judged (form-kept at e (forms .0)) in
+    let write = entry-made rows state e long place small judged (form-kept at e (forms .0)) in
     let next : State = withGained state (e .row gains writtenOver rows e .pulses ∷ []) in
     let agree = tallies-agree state (next .tallies) 0 in
     let later =

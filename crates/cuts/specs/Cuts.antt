@@ -1,5 +1,5 @@
--- Demand 3: power cut while a job runs (document 01, "Jobs").
-use Prim.Native.Nat.{ℕ, _+_, _<_}
+-- Demand 3: power cut while a job runs (document 01, "Jobs"; request 2026-09).
+use Prim.Native.Nat.{ℕ, _+_, _≤_, _<_}
 use mathlib.Core.List.{List, [], _∷_}
 use mathlib.Core.Path.{_≡_}
 use lib.ListN.{getD, set}
@@ -7,7 +7,7 @@ use Rattle.chip.specs.Slices.{rowAt}
 use Rattle.chip.specs.declared.state.State.{State}
 use Rattle.lock.specs.Calls.{enterKey}
 use Rattle.latch.specs.Resetting.{resetNumber, reset}
-use Rattle.form.specs.Entries.{entriesOf}
+use Rattle.form.specs.Entries.{versionOf, entriesOf}
 use Rattle.form.specs.declared.entries.Entry.{Entry}
 use Rattle.job.specs.Burning.{writtenOver, withEntry, allWritten}
 use Rattle.job.specs.Jobs.{runJob, rehearse}
@@ -45,18 +45,27 @@ pub data Cuts : List Entry → List ℕ → List ℕ → ℕ → Type 0 where
   once : {es : List Entry} {rows between left : List ℕ} {spent : ℕ} → CutOf rows es between → Cuts es between left spent
       → Cuts es rows left (newlySet rows between + spent)
 
--- a job accepted on a chip just reset, cut after any pulse, in any order of bits inside a row, any number of times, with a reset and
--- the same key each time: each reset is done, the job is accepted again, a finished run leaves the rows that writing each entry in
--- turn gives without a cut, and the pulses of all runs add up to the uncut run's
-abbrev pub CutPower : Type 0
-CutPower =
-    (rows left : List ℕ) (before later : State) (key : Keyed) (job : List ℕ) (spent : ℕ)
-    → Bytes job → acceptedOn rows before key job → Cuts (entriesOf job) rows left spent
-    → acceptedOn left later key job
+-- after cuts the job is run to its end: the reset is done, the job is accepted again, it leaves the rows that writing each entry in turn
+-- gives without a cut, and the pulses of all runs add up to the uncut run's
+abbrev pub Completes : List ℕ → List ℕ → State → State → Keyed → List ℕ → ℕ → Type 0
+Completes rows left before later key job spent =
+    acceptedOn left later key job
     × (runJob left (ready left later key) job .rows ≡ allWritten rows (entriesOf job))
     × (runJob rows (ready rows before key) job .rows ≡ allWritten rows (entriesOf job))
     × (spent + runJob left (ready left later key) job .outcome .answer .pulses
     ≡ runJob rows (ready rows before key) job .outcome .answer .pulses)
+
+-- no lock pulse was given: each lock row holds what it held
+abbrev pub NoLockPulse : List ℕ → List ℕ → Type 0
+NoLockPulse rows left = (row : ℕ) → 0xf80 ≤ row → rowAt left row ≡ rowAt rows row
+
+-- a job accepted on a chip just reset, cut after any pulse, in any order of bits inside a row, any number of times, with a reset and
+-- the same key each time: it completes; one of version 2 does so long as no lock pulse was given
+abbrev pub CutPower : Type 0
+CutPower =
+    (rows left : List ℕ) (before later : State) (key : Keyed) (job : List ℕ) (spent : ℕ)
+    → Bytes job → acceptedOn rows before key job → Cuts (entriesOf job) rows left spent → (versionOf job ≡ 2 → NoLockPulse rows left)
+    → Completes rows left before later key job spent
 
 -- a rehearsal with any limit leaves such a cut, for as many pulses as it answers
 abbrev pub RehearsalCuts : Type 0

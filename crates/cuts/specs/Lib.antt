@@ -1,4 +1,5 @@
 pub mod Cuts
+pub mod Versions
 pub mod Pulses
 pub mod Jobs
 pub mod Tallies

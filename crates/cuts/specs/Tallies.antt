@@ -7,7 +7,7 @@ use Rattle.chip.specs.Pages.{pageOf}
 use Rattle.chip.specs.Tallies.{pageRows, talliesOf, tallyAt}
 use Rattle.chip.specs.declared.state.State.{State}
 use Rattle.latch.specs.Resetting.{resetNumber}
-use Rattle.form.specs.Entries.{countOf, entryAt, entriesOf}
+use Rattle.form.specs.Entries.{versionOf, countOf, entryAt, entriesOf}
 use Rattle.job.specs.Jobs.{runJob, rehearse}
 use Rattle.laws.specs.Calls.{Chip, Call, aReset, aRawWrite, anEccWrite, aJob, aRehearsal, perform, performAll}
 use Rattle.cuts.specs.Cuts.{Keyed, ready, Bytes, acceptedOn, Cuts}
@@ -29,11 +29,11 @@ CutTallied =
     → rehearse rows (ready rows before key) job limit .outcome .state .tallies
     ≡ talliesOf (rehearse rows (ready rows before key) job limit .rows)
 
--- demand 3: after cuts, resets and the last run the tallies are those of the uncut run
+-- demand 3: after cuts, resets and the last run, which of a version 2 job is accepted, the tallies are those of the uncut run
 abbrev pub CutsLeaveTallies : Type 0
 CutsLeaveTallies =
     (rows left : List ℕ) (before later : State) (key : Keyed) (job : List ℕ) (spent : ℕ)
-    → Bytes job → acceptedOn rows before key job → Cuts (entriesOf job) rows left spent
+    → Bytes job → acceptedOn rows before key job → Cuts (entriesOf job) rows left spent → (versionOf job ≡ 2 → acceptedOn left later key job)
     → runJob left (ready left later key) job .outcome .state .tallies ≡ runJob rows (ready rows before key) job .outcome .state .tallies
 
 -- the pages that a call names: a row of it is written, or stands in the job, whether or not a rehearsal's limit gets so far

@@ -6,16 +6,16 @@ use mathlib.Core.List.{List}
 use mathlib.Core.Logic.{_⊎_, inl, inr, ⊎-elim}
 use Prim.Native.Nat.{ℕ, suc, _+_, _-_, _≤_, _<_}
 use native.Mathlib.Omega.{arith}
-use borrow.Author.Tests.{eq-eqb, ne-eqb, eqb-false, leb-false, ltb-false}
-use lib.Dec.{eqb, leb, ltb}
+use borrow.Author.Tests.{eq-eqb, ne-eqb, eqb-true, eqb-false, ltb-false, not-false}
+use lib.Dec.{eqb, ltb}
 use lib.ListN.{length}
 use Rattle.answer.specs.Choice.{if_then_else_}
 use Rattle.answer.proofs.Ladders.{never-zero}
 use Rattle.form.specs.Entries.{versionOf, countOf, entryAt, entriesFrom, entriesOf}
-use Rattle.form.specs.Faults.{faultNumber, _otherwise_, marked, headFault, formFault, formFaults, orderFault, orderFaults, faultOf}
+use Rattle.form.specs.Faults.{faultNumber, _otherwise_, marked, headFault, formFault, formFaults, rowFault, orderFaults, faultUnder, ruleOf, faultOf}
 use Rattle.form.specs.declared.entries.Entry.{Entry}
 use Rattle.form.specs.declared.faults.Fault.{Fault}
-use Rattle.form.specs.declared.faults.Fault.the-variants.{Sound, Short, Mark, Version, Count, Length, Kind, Value, High, Order}
+use Rattle.form.specs.declared.faults.Fault.the-variants.{Sound, Short, Mark, Version, Count, Length, Kind, Value, High, Kept, Past, Coded, Late, Order}
 use Rattle.form.proofs.Upward.{next-left}
 
 fault-stops : (fault next : Fault) → (faultNumber fault ≡ 0 → ⊥) → (fault otherwise next) ≡ fault
@@ -40,44 +40,36 @@ module _ (job : List ℕ) (count i : ℕ) (h : i < count) where
   unfolding formFaults
   form-next none = rw (next-left job count i h) (fault-next form forms none)
 
-  module _ (least : ℕ) where
+  module _ (version least : ℕ) where
     abbrev order : Fault
-    order = orderFault i least (entryAt job i)
+    order = rowFault version i least (entryAt job i)
 
     abbrev orders : Fault
-    orders = orderFaults (i + 1) (entryAt job i .row + 1) (entriesFrom job (i + 1) (count - (i + 1)))
+    orders = orderFaults version (i + 1) (entryAt job i .row + 1) (entriesFrom job (i + 1) (count - (i + 1)))
 
-    pub order-stops : (faultNumber order ≡ 0 → ⊥) → orderFaults i least (entriesFrom job i (count - i)) ≡ order
+    pub order-stops : (faultNumber order ≡ 0 → ⊥) → orderFaults version i least (entriesFrom job i (count - i)) ≡ order
     unfolding orderFaults
     order-stops some = rw (next-left job count i h) (fault-stops order orders some)
 
-    pub order-next : faultNumber order ≡ 0 → orderFaults i least (entriesFrom job i (count - i)) ≡ orders
+    pub order-next : faultNumber order ≡ 0 → orderFaults version i least (entriesFrom job i (count - i)) ≡ orders
     unfolding orderFaults
     order-next none = rw (next-left job count i h) (fault-next order orders none)
 
 -- the head, then the forms, then the order
-pub head-stops : (job : List ℕ) → (faultNumber (headFault job) ≡ 0 → ⊥) → faultOf job ≡ headFault job
-unfolding faultOf
-head-stops job some = fault-stops (headFault job) _ some
+module _ (version : ℕ) (job : List ℕ) where
+  pub head-stops : (faultNumber (headFault version job) ≡ 0 → ⊥) → faultUnder version job ≡ headFault version job
+  unfolding faultUnder
+  head-stops some = fault-stops (headFault version job) _ some
 
-pub form-stops-all : (job : List ℕ) → faultNumber (headFault job) ≡ 0 → (faultNumber (formFaults 0 (entriesOf job)) ≡ 0 → ⊥)
-    → faultOf job ≡ formFaults 0 (entriesOf job)
-unfolding faultOf
-form-stops-all job none some = fault-next (headFault job) _ none ∙ fault-stops (formFaults 0 (entriesOf job)) _ some
+  pub form-stops-all : faultNumber (headFault version job) ≡ 0 → (faultNumber (formFaults 0 (entriesOf job)) ≡ 0 → ⊥)
+      → faultUnder version job ≡ formFaults 0 (entriesOf job)
+  unfolding faultUnder
+  form-stops-all none some = fault-next (headFault version job) _ none ∙ fault-stops (formFaults 0 (entriesOf job)) _ some
 
-pub order-last : (job : List ℕ) → faultNumber (headFault job) ≡ 0 → faultNumber (formFaults 0 (entriesOf job)) ≡ 0
-    → faultOf job ≡ orderFaults 0 0 (entriesOf job)
-unfolding faultOf
-order-last job none no-form = fault-next (headFault job) _ none ∙ fault-next (formFaults 0 (entriesOf job)) _ no-form
-
--- a row in order is below 0xf40 and not below the least
-pub order-kept : (i least : ℕ) (e : Entry) → faultNumber (orderFault i least e) ≡ 0 → (e .row < 0xf40) × (least ≤ e .row)
-order-kept i least e none = go (leb 0xf40 (e .row)) (ltb (e .row) least) refl refl
-  where
-    go : (high low : Bool) → leb 0xf40 (e .row) ≡ high → ltb (e .row) least ≡ low → (e .row < 0xf40) × (least ≤ e .row)
-    go true low is-high is-low = let eleven : _≡_ {A = ℕ} 11 0 = rw is-high at none in absurd (omega arith)
-    go false true is-high is-low = let eleven : _≡_ {A = ℕ} 11 0 = rw (is-high, is-low) at none in absurd (omega arith)
-    go false false is-high is-low = (leb-false 0xf40 (e .row) is-high, ltb-false (e .row) least is-low)
+  pub order-last : faultNumber (headFault version job) ≡ 0 → faultNumber (formFaults 0 (entriesOf job)) ≡ 0
+      → faultUnder version job ≡ orderFaults version 0 0 (entriesOf job)
+  unfolding faultUnder
+  order-last none no-form = fault-next (headFault version job) _ none ∙ fault-next (formFaults 0 (entriesOf job)) _ no-form
 
 -- ---- no fault
 
@@ -92,6 +84,10 @@ one-of Length = inr (inl refl)
 one-of (Kind i) = inr (inl refl)
 one-of (Value i) = inr (inl refl)
 one-of (High i) = inr (inr refl)
+one-of (Kept i) = inr (inr refl)
+one-of (Past i) = inr (inr refl)
+one-of (Coded i) = inr (inr refl)
+one-of (Late i) = inr (inr refl)
 one-of (Order i) = inr (inr refl)
 
 -- neither number: no fault
@@ -109,29 +105,39 @@ both-sound fault next e =
         let stops = fault-stops fault next (λ none. never-zero n (sym is ∙ none)) in
         absurd (never-zero n (sym is ∙ ap faultNumber (sym stops ∙ e)))
 
+-- no number: no fault
+pub zero-sound : (fault : Fault) → faultNumber fault ≡ 0 → fault ≡ Sound
+zero-sound fault none = both-sound fault Sound (fault-next fault Sound none) .0
+
 -- what a sound head has passed
-head-passed : (t : Bool) (fault next : Fault) → (faultNumber fault ≡ 0 → ⊥) → (if t then fault else next) ≡ Sound → (t ≡ false) × (next ≡ Sound)
+pub head-passed : (t : Bool) (fault next : Fault) → (faultNumber fault ≡ 0 → ⊥) → (if t then fault else next) ≡ Sound → (t ≡ false) × (next ≡ Sound)
 head-passed true fault next some e = absurd (some (ap faultNumber e))
 head-passed false fault next some e = (refl, e)
 
--- a sound head has at most 512 entries
-pub head-count : (job : List ℕ) → headFault job ≡ Sound → countOf job ≤ 512
+-- a sound head has its version and at most 512 entries
+pub head-kept : (version : ℕ) (job : List ℕ) → headFault version job ≡ Sound → (versionOf job ≡ version) × (countOf job ≤ 512)
 unfolding headFault
-head-count job e =
+head-kept version job e =
     let long = head-passed (ltb (length job) 7) Short _ (never-zero 9) e in
     let mark = head-passed (not (marked job)) Mark _ (never-zero 9) (long .1) in
-    let version = head-passed (not (eqb (versionOf job) 1)) Version _ (never-zero 9) (mark .1) in
-    ltb-false 512 (countOf job) (head-passed (ltb 512 (countOf job)) Count _ (never-zero 9) (version .1) .0)
+    let own = head-passed (not (eqb (versionOf job) version)) Version _ (never-zero 9) (mark .1) in
+    let few = head-passed (ltb 512 (countOf job)) Count _ (never-zero 9) (own .1) in
+    (eqb-true (versionOf job) version (not-false (eqb (versionOf job) version) (own .0)), ltb-false 512 (countOf job) (few .0))
 
--- a sound job's rows are in order
-pub order-sound : (job : List ℕ) → faultOf job ≡ Sound → orderFaults 0 0 (entriesOf job) ≡ Sound
-unfolding faultOf
-order-sound job e = both-sound (formFaults 0 (entriesOf job)) _ (both-sound (headFault job) _ e .1) .1
+-- a sound job has a sound head
+pub head-sound : (job : List ℕ) → faultOf job ≡ Sound → headFault (ruleOf job) job ≡ Sound
+unfolding faultUnder
+head-sound job e = both-sound (headFault (ruleOf job) job) _ e .0
+
+-- its rows are in order
+pub order-sound : (job : List ℕ) → faultOf job ≡ Sound → orderFaults (ruleOf job) 0 0 (entriesOf job) ≡ Sound
+unfolding faultUnder
+order-sound job e = both-sound (formFaults 0 (entriesOf job)) _ (both-sound (headFault (ruleOf job) job) _ e .1) .1
 
 -- and its entries are well formed
 pub forms-sound : (job : List ℕ) → faultOf job ≡ Sound → formFaults 0 (entriesOf job) ≡ Sound
-unfolding faultOf
-forms-sound job e = both-sound (formFaults 0 (entriesOf job)) _ (both-sound (headFault job) _ e .1) .0
+unfolding faultUnder
+forms-sound job e = both-sound (formFaults 0 (entriesOf job)) _ (both-sound (headFault (ruleOf job) job) _ e .1) .0
 
 -- a well formed ECC entry has 16 bits
 pub form-kept : (i : ℕ) (e : Entry) → formFault i e ≡ Sound → e .kind ≡ 0 → e .value ≤ 65535

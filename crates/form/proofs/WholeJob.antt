@@ -93,24 +93,25 @@ job-front n job version entries =
 
 -- ---- a head without a fault
 
-head-sound : (job : List ℕ) → marked job ≡ true → versionOf job ≡ 1 → countOf job ≤ 512 → length job ≡ 7 + 6 * countOf job → headFault job ≡ Sound
+head-whole : (version : ℕ) (job : List ℕ) → marked job ≡ true → versionOf job ≡ version → countOf job ≤ 512 → length job ≡ 7 + 6 * countOf job
+    → headFault version job ≡ Sound
 unfolding headFault
-head-sound job mark version count long =
+head-whole version job mark own count long =
     rw (
       le-ltb (length job) 7 (omega arith),
       mark,
-      eq-eqb (versionOf job) 1 version,
+      eq-eqb (versionOf job) version own,
       le-ltb 512 (countOf job) count,
       eq-eqb (length job) (7 + 6 * countOf job) long,
     )
 
--- at most 512 entries that fill the job, under version 1
-pub job-sound : (job : List ℕ) (entries : List Entry) → length entries ≤ 512 → length job ≡ 7 + 6 * length entries
-    → headFault (withJob job 1 entries) ≡ Sound
-job-sound job entries few filled =
-    let head = job-head job 1 entries (omega arith) (omega arith) (omega arith) in
-    let long = entries-length entries (withHead job 1 (length entries)) 0 ∙ length-stays job 0 (headBytes 1 (length entries)) ∙ filled in
-    head-sound (withJob job 1 entries) (head .0) (head .1) (rw (head .2) few) (rw (head .2) long)
+-- at most 512 entries that fill the job, under a version that has room
+pub job-sound : (job : List ℕ) (version : ℕ) (entries : List Entry) → version ≤ 65535 → length entries ≤ 512 → length job ≡ 7 + 6 * length entries
+    → headFault version (withJob job version entries) ≡ Sound
+job-sound job version entries v few filled =
+    let head = job-head job version entries v (omega arith) (omega arith) in
+    let long = entries-length entries (withHead job version (length entries)) 0 ∙ length-stays job 0 (headBytes version (length entries)) ∙ filled in
+    head-whole version (withJob job version entries) (head .0) (head .1) (rw (head .2) few) (rw (head .2) long)
 
 -- ---- the job of document 01: one ECC entry, row 0x0c0, value 1
 

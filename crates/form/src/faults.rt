@@ -1,4 +1,4 @@
-// What is wrong with a job's bytes: why it is answered 10 or 11 (document 01, "Jobs").
+// What is wrong with a job's bytes: why it is answered 10 or 11 (document 01, "Jobs"; request 2026-09).
 ghost use mathlib.Core.Path.{_≡_};
 ghost use Rattle.form.specs.Entries.{entriesFrom};
 ghost use Rattle.form.specs.Faults as spec;
@@ -20,6 +20,10 @@ pub enum Fault {
     Kind(u32),
     Value(u32),
     High(u32),
+    Kept(u32),
+    Past(u32),
+    Coded(u32),
+    Late(u32),
     Order(u32),
 }
 
@@ -40,6 +44,10 @@ pub fn fault_number(fault: Fault) -> u32
         Fault::Kind(_) => 10,
         Fault::Value(_) => 10,
         Fault::High(_) => 11,
+        Fault::Kept(_) => 11,
+        Fault::Past(_) => 11,
+        Fault::Coded(_) => 11,
+        Fault::Late(_) => 11,
         Fault::Order(_) => 11,
     }
 }
@@ -57,9 +65,9 @@ fn marked(job: &[u8]) -> bool
     byte_at(job, 2) == 0x4a
 }
 
-// The fault of a job's head.
-fn head_fault(job: &[u8]) -> Fault
-    ensures { λ r. ⌜ r ≡ spec.headFault (now (job .entry)) ⌝ }
+// The fault of a job's head, where the job is to have a version.
+fn head_fault(job: &[u8], version: u32) -> Fault
+    ensures { λ r. ⌜ r ≡ spec.headFault version (now (job .entry)) ⌝ }
 {
     if job.len() < 7 {
         return Fault::Short;
@@ -67,7 +75,7 @@ fn head_fault(job: &[u8]) -> Fault
     if !marked(job) {
         return Fault::Mark;
     }
-    if version_of(job) != 1 {
+    if version_of(job) != version {
         return Fault::Version;
     }
     let count = count_of(job);
@@ -110,7 +118,7 @@ fn form_faults(job: &[u8], count: u32) -> Fault
     Fault::Sound
 }
 
-// The fault of an entry's row, where `least` is the lowest that may come.
+// The fault of an entry's row in version 1, where `least` is the lowest that may come.
 fn order_fault(i: u32, least: u32, entry: Entry) -> Fault
     ensures { λ r. ⌜ r ≡ spec.orderFault i least entry ⌝ }
 {
@@ -123,15 +131,54 @@ fn order_fault(i: u32, least: u32, entry: Entry) -> Fault
     Fault::Sound
 }
 
-// The first of the first `count` entries whose row is wrong.
-fn order_faults(job: &[u8], count: u32) -> Fault
-    ensures { λ r. ⌜ r ≡ spec.orderFaults 0 0 (entriesFrom (now (job .entry)) 0 count) ⌝ }
+// The fault of an entry's row in version 2. A least row above the first lock row says that a lock row went before.
+fn locking_fault(i: u32, least: u32, entry: Entry) -> Fault
+    ensures { λ r. ⌜ r ≡ spec.lockingFault i least entry ⌝ }
+{
+    let row = entry.row;
+    if Page::LAST_ROW < row {
+        return Fault::Past(i);
+    }
+    if Page::FIRST_LOCK_ROW <= row {
+        if entry.kind == 0 {
+            return Fault::Coded(i);
+        }
+        if row < least {
+            return Fault::Order(i);
+        }
+        return Fault::Sound;
+    }
+    if Page::FIRST_KEPT_ROW <= row {
+        return Fault::Kept(i);
+    }
+    if Page::FIRST_LOCK_ROW < least {
+        return Fault::Late(i);
+    }
+    if row < least {
+        return Fault::Order(i);
+    }
+    Fault::Sound
+}
+
+// The fault of an entry's row by a version's rule.
+fn row_fault(version: u32, i: u32, least: u32, entry: Entry) -> Fault
+    ensures { λ r. ⌜ r ≡ spec.rowFault version i least entry ⌝ }
+{
+    if version == 2 {
+        return locking_fault(i, least, entry);
+    }
+    order_fault(i, least, entry)
+}
+
+// The first of the first `count` entries whose row is wrong by a version's rule.
+fn order_faults(job: &[u8], version: u32, count: u32) -> Fault
+    ensures { λ r. ⌜ r ≡ spec.orderFaults version 0 0 (entriesFrom (now (job .entry)) 0 count) ⌝ }
 {
     let mut least = 0;
     let mut i = 0;
     while i < count {
         let entry = entry_at(job, i);
-        let fault = order_fault(i, least, entry);
+        let fault = row_fault(version, i, least, entry);
         if fault_number(fault) != 0 {
             return fault;
         }
@@ -141,11 +188,11 @@ fn order_faults(job: &[u8], count: u32) -> Fault
     Fault::Sound
 }
 
-// The first fault of a job: its head, then the form of all entries, then the order of their rows.
-pub fn fault_of(job: &[u8]) -> Fault
-    ensures { λ r. ⌜ r ≡ spec.faultOf (now (job .entry)) ⌝ }
+// The first fault of a job by a version's rule: its head, then the form of all entries, then the order of their rows.
+fn fault_under(job: &[u8], version: u32) -> Fault
+    ensures { λ r. ⌜ r ≡ spec.faultUnder version (now (job .entry)) ⌝ }
 {
-    let head = head_fault(job);
+    let head = head_fault(job, version);
     if fault_number(head) != 0 {
         return head;
     }
@@ -154,5 +201,15 @@ pub fn fault_of(job: &[u8]) -> Fault
     if fault_number(form) != 0 {
         return form;
     }
-    order_faults(job, count)
+    order_faults(job, version, count)
+}
+
+// The first fault of a job, by the rule of version 2 where that is its version, and else by that of version 1.
+pub fn fault_of(job: &[u8]) -> Fault
+    ensures { λ r. ⌜ r ≡ spec.faultOf (now (job .entry)) ⌝ }
+{
+    if version_of(job) == 2 {
+        return fault_under(job, 2);
+    }
+    fault_under(job, 1)
 }

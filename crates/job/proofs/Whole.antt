@@ -20,13 +20,13 @@ use Rattle.answer.proofs.Ladders.{passed}
 use Rattle.chip.specs.Slices.{notWhole}
 use Rattle.chip.specs.declared.state.State.{State}
 use Rattle.form.specs.Entries.{countOf, entriesFrom, entriesOf}
-use Rattle.form.specs.Faults.{headFault, faultOf, malformed, outOfOrder}
+use Rattle.form.specs.Faults.{ruleOf, faultOf, malformed, outOfOrder}
 use Rattle.form.specs.declared.entries.Entry.{Entry}
 use Rattle.form.specs.declared.faults.Fault.the-variants.{Sound}
 use Rattle.job.specs.Burning.{Progress, writtenOver, withEntry, allWritten, allPulses, allGained, rehearsed}
 use Rattle.job.specs.Jobs.{carriedOut, runJob, rehearse}
 use Rattle.judge.specs.Verdicts.{entryWritten, allRungs, verdictOf}
-use Rattle.form.proofs.Faulty.{no-fault, both-sound, head-count}
+use Rattle.form.proofs.Faulty.{no-fault, head-kept, head-sound}
 
 -- ---- a row takes at most 24 pulses
 
@@ -92,8 +92,7 @@ accepted rows state job e =
     (one .0, no-fault (faultOf job) (ten .0) (eleven .0), eleven .1)
 
 pub count-few : (job : List ℕ) → faultOf job ≡ Sound → countOf job ≤ 512
-unfolding faultOf
-count-few job e = head-count job (both-sound (headFault job) _ e .0)
+count-few job e = head-kept (ruleOf job) job (head-sound job e) .1
 
 -- with 12,288 pulses a rehearsal is the job
 pub whole-job : (rows : List ℕ) (state : State) (job : List ℕ) → rehearse rows state job 12288 ≡ runJob rows state job

@@ -16,15 +16,19 @@ carriedOut judged rows state done =
     if eqb (judged .number) 0 then burnt state (done .gained) (done .rows) (done .place) (done .pulses)
     else kept state rows (judged .number) (judged .place)
 
--- run a job: each entry is written in turn, and in the end all of them stand
-unfoldable pub runJob : List ℕ → State → List ℕ → Left
-runJob rows state job =
-    carriedOut (verdictOf rows state job) rows state (record {
+-- a job run as it is judged: each entry is written in turn, and in the end all of them stand
+abbrev pub ranAs : Verdict → List ℕ → State → List ℕ → Left
+ranAs judged rows state job =
+    carriedOut judged rows state (record {
       rows = allWritten rows (entriesOf job);
       gained = allGained rows (entriesOf job);
       pulses = allPulses rows (entriesOf job);
       place = countOf job;
     })
+
+-- run a job
+unfoldable pub runJob : List ℕ → State → List ℕ → Left
+runJob rows state job = ranAs (verdictOf rows state job) rows state job
 
 -- rehearse a job: judged as a job, it stops after so many pulses
 unfoldable pub rehearse : List ℕ → State → List ℕ → ℕ → Left

@@ -18,7 +18,7 @@ fn board() -> Board {
 }
 
 // A job run on that board, whose row 0x0c2 is too large once the board is reset.
-fn case(before: Tally, name: &[u8], bytes: &[u8], must: Must) -> Tally {
+pub fn case(before: Tally, name: &[u8], bytes: &[u8], must: Must) -> Tally {
     let mut rows = board();
     let state = ready(&rows);
     rows[0x0c2] = 0x1000000;
@@ -72,8 +72,8 @@ fn malformed_heads(start: Tally) -> Tally {
     );
     let version = case(
         mark,
-        b"version 2",
-        b"\x4f\x54\x4a\x02\x00\x00\x00",
+        b"version 3",
+        b"\x4f\x54\x4a\x03\x00\x00\x00",
         Must(10, 0, 0),
     );
     let turned = case(

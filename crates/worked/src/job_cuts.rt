@@ -67,14 +67,14 @@ fn standing(pulses: u32) -> u32 {
 }
 
 // The full job after a reset.
-fn reset_and_run(rows: &mut Board, job: &[u8]) -> Answer {
+pub fn reset_and_run(rows: &mut Board, job: &[u8]) -> Answer {
     let state = ready(rows);
     let outcome = run_job(rows, state, job);
     outcome.answer
 }
 
 // A job cut by a limit after a reset.
-fn reset_and_rehearse(rows: &mut Board, job: &[u8], limit: u32) -> Answer {
+pub fn reset_and_rehearse(rows: &mut Board, job: &[u8], limit: u32) -> Answer {
     let state = ready(rows);
     let outcome = rehearse(rows, state, job, limit);
     outcome.answer

@@ -9,6 +9,7 @@ mod job_cases;
 mod job_cuts;
 mod job_lines;
 mod job_tallies;
+mod job_versions;
 mod print;
 mod read_lines;
 mod samples;
@@ -37,6 +38,7 @@ fn main() {
     let places = vote_places::run(voted);
     let jobs = job_cases::run(places);
     let cuts = job_cuts::run(jobs);
-    let all = job_tallies::run(cuts);
+    let tallied = job_tallies::run(cuts);
+    let all = job_versions::run(tallied);
     tally::last_line(all);
 }

@@ -1,47 +1,16 @@
--- `form::faults::fault_of` meets its contract: the first part that has a fault answers.
+-- `form::faults::fault_of` meets its contract: the version says by whose rule.
 -- Assumes nothing.
 use borrow.Author.Needs.{needs}
-use denote.Ref.{now}
-use mathlib.Core.Path.{sym, ap, _∙_}
-use Prim.Native.Nat.{ℕ}
-use Rattle.form.specs.Entries.{entriesFrom}
-use Rattle.form.specs.Faults.{faultNumber, formFaults, orderFaults}
-use Rattle.form.proofs.Faulty.{head-stops, form-stops-all, order-last}
+use borrow.Author.Tests.{eq-eqb, ne-eqb}
+use mathlib.Core.Path.{sym, _∙_}
 use Rattle.form.proofs.faults.fault_of.Statement.{statement}
 use Rattle.form.proofs.faults.fault_of.Tie as tie
 
 returns : tie.Need-returns
-returns c =
-    let job = now (c .before .before .before .before .args .job) in
-    let head = c .before .before .head-fault .ensures in
-    head ∙ sym (head-stops job (λ e. c .if1 .taken (c .before .fault-number .ensures ∙ ap faultNumber head ∙ e)))
+returns c = rw (eq-eqb _ 2 (sym (c .before .before .version-of .ensures) ∙ c .before .if1 .taken)) (c .fault-under .ensures)
 
 returns-2 : tie.Need-returns-2
-returns-2 c =
-    let job = now (c .before .before .before .before .before .before .before .before .args .job) in
-    let head = sym (ap faultNumber (c .before .before .before .before .before .before .head-fault .ensures)) ∙ sym (c .before .before .before .before .before .fault-number .ensures) ∙ c .before .before .before .before .if1 .left in
-    let form = c .before .before .form-faults .ensures ∙ ap (λ (n : ℕ). formFaults 0 (entriesFrom job 0 n)) (c .before .before .before .count-of .ensures .0) in
-    form ∙ sym (form-stops-all job head (λ e. c .if2 .taken (c .before .fault-number2 .ensures ∙ ap faultNumber form ∙ e)))
-
-returns-3 : tie.Need-returns-3
-returns-3 c =
-    let job = now (c .before .before .before .before .before .before .before .before .before .args .job) in
-    let head = sym (ap faultNumber (c .before .before .before .before .before .before .before .head-fault .ensures)) ∙ sym (c .before .before .before .before .before .before .fault-number .ensures) ∙ c .before .before .before .before .before .if1 .left in
-    let count = c .before .before .before .before .count-of .ensures .0 in
-    let form = c .before .before .before .form-faults .ensures ∙ ap (λ (n : ℕ). formFaults 0 (entriesFrom job 0 n)) count in
-    c .order-faults .ensures ∙ ap (λ (n : ℕ). orderFaults 0 0 (entriesFrom job 0 n)) count
-    ∙ sym (order-last job head (sym (ap faultNumber form) ∙ sym (c .before .before .fault-number2 .ensures) ∙ c .before .if2 .left))
+returns-2 c = rw (ne-eqb _ 2 (λ e. c .before .if1 .left (c .before .before .version-of .ensures ∙ e))) (c .fault-under2 .ensures)
 
 pub fault-of-spec : {M : Type 1} → statement M
-fault-of-spec =
-    tie.close
-    (tie.spec
-    (λ c κs. search needs)
-    (λ c κs. search needs)
-    returns
-    (λ c κs. search needs)
-    (λ c κs. search needs)
-    (λ c κs. search needs)
-    returns-2
-    (λ c κs. search needs)
-    returns-3)
+fault-of-spec = tie.close (tie.spec (λ c κs. search needs) (λ c κs. search needs) returns (λ c κs. search needs) returns-2)
