@@ -2,6 +2,7 @@
 
 use crate::call::{Call, Chip};
 use crate::counts::Counts;
+use crate::ends::Ends;
 use crate::locks::{key_page, owner};
 use crate::shape::{Answer, State, ROWS};
 
@@ -19,6 +20,7 @@ pub struct Bench<'a> {
     ours: Vec<u32>,
     pub state: State,
     pub counts: Counts,
+    pub ends: Ends,
 }
 
 impl<'a> Bench<'a> {
@@ -30,6 +32,7 @@ impl<'a> Bench<'a> {
             ours: vec![0; BUFFER],
             state: State::blank(),
             counts: Counts::default(),
+            ends: Ends::default(),
         }
     }
 

@@ -3,8 +3,8 @@
 
 use crate::bench::{Bench, Difference, BUFFER};
 use crate::call::Call;
+use crate::form::Entry;
 use crate::jobfiles::bytes;
-use crate::jobs::Entry;
 use crate::recount::tallies_are_right;
 use crate::shape::{State, LARGEST, LOCK_ROWS, PAGES, ROWS, SECURE};
 use crate::states::TALLIES;

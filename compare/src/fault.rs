@@ -94,6 +94,30 @@ faults! {
     VoteSizesFirst    "vote-sizes-first"    "a vote looks at the size of all its rows before it refuses one";
     HiddenIfBurnt     "hidden-if-burnt"     "a row of a valid key is hidden only where something is burnt in it";
     SecureLockAlone   "secure-lock-alone"   "a Non-secure write looks at Secure's lock alone";
+    Version3          "version-3"           "version 3 is taken, as version 2";
+    Version2Refused   "version-2-refused"   "version 2 is still 10";
+    VersionLowByte    "version-low-byte"    "a job's version is its low byte alone";
+    Version1AsTwo     "version-1-as-2"      "version 1 goes by version 2's rule";
+    Version2AsOne     "version-2-as-1"      "version 2 goes by version 1's rule";
+    RowF40Taken       "row-f40-taken"       "row 0xf40 is a data row in version 2";
+    RowF7fTaken       "row-f7f-taken"       "row 0xf7f is a lock row in version 2";
+    Row4096Taken      "row-4096-taken"      "row 4,096 is a lock row in version 2, and is burnt as row 0";
+    RowAbove2         "row-above-2"         "a row above 4,095 is 2 in version 2";
+    EccLockTaken      "ecc-lock-taken"      "an ECC entry at a lock row is taken";
+    EccLock10         "ecc-lock-10"         "an ECC entry at a lock row is 10";
+    DataAfterLock     "data-after-lock"     "a data row after a lock row is taken";
+    LocksFall         "locks-fall"          "a job's lock rows need not rise";
+    NoLocksRefused    "no-locks-refused"    "a version 2 job without lock rows is 11";
+    NoDataRefused     "no-data-refused"     "a version 2 job without data rows is 11";
+    OrderFirst        "order-first"         "11 goes before 10 for a kind or an ECC value";
+    JobLockOwnWord    "job-lock-own-word"   "a job's lock row is judged by its own word's keys";
+    JobLockUnjudged   "job-lock-unjudged"   "a job's lock row needs no permission";
+    LockRefusesLater  "lock-refuses-later"  "a lock row refuses later entries of the job that burns it";
+    JobLatches        "job-latches"         "a job's lock rows are latched without a reset";
+    LocksFirst        "locks-first"         "a job's lock rows are burnt before its data rows";
+    CutLockWhole      "cut-lock-whole"      "a limit cuts no lock row: one that is begun is burnt whole";
+    PlaceDataOnly     "place-data-only"     "the place counts data rows alone";
+    JobTallyLockWord  "job-tally-lock-word" "a job's lock rows count for the page that they lock";
 }
 
 /// The fault of a name.

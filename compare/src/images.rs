@@ -76,8 +76,8 @@ impl Image {
                 continue;
             }
             let row = (LOCK_ROWS + 2 * page) as usize;
-            self.rows[row] = lock_row(random, key_settings);
-            self.rows[row + 1] = lock_row(random, levels);
+            self.rows[row] = lock_row(random, false);
+            self.rows[row + 1] = lock_row(random, true);
         }
     }
 
@@ -155,9 +155,12 @@ pub fn too_large(random: &mut Random) -> u32 {
     random.pick(&[LARGEST + 1, LARGEST + 2, u32::MAX, any | 0x8000_0000, any | 0x100_0000])
 }
 
-/// A lock row: three copies of a byte, mostly the same.
-fn lock_row(random: &mut Random, byte: fn(&mut Random) -> u32) -> u32 {
-    let copy = byte(random);
+/// A lock row, low or high: three copies of a byte, mostly the same.
+pub fn lock_row(random: &mut Random, high: bool) -> u32 {
+    let copy = match high {
+        true => levels(random),
+        false => key_settings(random),
+    };
     let mut row = copy | copy << 8 | copy << 16;
     match random.below(8) {
         0 => row ^= random.below(256) << (8 * random.below(3)),

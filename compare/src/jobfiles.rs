@@ -1,24 +1,60 @@
-//! Job files: good ones over busy and quiet rows, and ones that are wrong in every way, now and then in two ways.
+//! Job files of both versions, well formed and in order: over busy and quiet rows, and in version 2 with lock rows after them.
 
-use crate::images::Image;
-use crate::jobs::{Entry, JOB_END, MOST};
+use crate::form::{Entry, DATA_END, ECC, MOST, RAW};
+use crate::images::{lock_row, Image};
+use crate::locks::owner;
 use crate::random::Random;
-use crate::shape::LARGEST;
+use crate::shape::{LARGEST, LOCK_ROWS, ROWS};
 
-/// The bytes of a job file with these entries.
-pub fn bytes(entries: &[Entry]) -> Vec<u8> {
-    let mut file = vec![0x4f, 0x54, 0x4a, 1, 0];
-    file.extend((entries.len() as u16).to_le_bytes());
-    for entry in entries {
-        file.extend((entry.row as u16).to_le_bytes());
-        file.push(entry.kind);
-        file.extend(&entry.value.to_le_bytes()[..3]);
-    }
-    file
+/// A job: its version, and its entries.
+pub struct Draft {
+    pub version: u16,
+    pub entries: Vec<Entry>,
 }
 
-/// Entries that are well formed and rise.
-pub fn entries(random: &mut Random, image: &Image) -> Vec<Entry> {
+impl Draft {
+    /// The bytes of its file.
+    pub fn bytes(&self) -> Vec<u8> {
+        let mut file = vec![0x4f, 0x54, 0x4a];
+        file.extend(self.version.to_le_bytes());
+        file.extend((self.entries.len() as u16).to_le_bytes());
+        for entry in &self.entries {
+            file.extend((entry.row as u16).to_le_bytes());
+            file.push(entry.kind);
+            file.extend(&entry.value.to_le_bytes()[..3]);
+        }
+        file
+    }
+}
+
+/// The bytes of a job file of a version with these entries.
+pub fn of_version(version: u16, entries: &[Entry]) -> Vec<u8> {
+    let entries = entries.to_vec();
+    Draft { version, entries }.bytes()
+}
+
+/// The bytes of a version 1 job file with these entries.
+pub fn bytes(entries: &[Entry]) -> Vec<u8> {
+    of_version(1, entries)
+}
+
+/// A job of either version. One of version 2 has data rows, lock rows, or both.
+pub fn draft(random: &mut Random, image: &Image) -> Draft {
+    let mut entries = data(random, image);
+    if random.coin() {
+        return Draft { version: 1, entries };
+    }
+    if random.once_in(4) {
+        entries.clear();
+    }
+    if !random.once_in(5) {
+        entries.extend(locks(random, image, &entries));
+    }
+    Draft { version: 2, entries }
+}
+
+/// Data rows that rise.
+fn data(random: &mut Random, image: &Image) -> Vec<Entry> {
     let count = match random.below(64) {
         0 => random.pick(&[MOST - 1, MOST, MOST]),
         1 => 13 + random.below(100) as usize,
@@ -27,7 +63,7 @@ pub fn entries(random: &mut Random, image: &Image) -> Vec<Entry> {
     };
     let mut rows: Vec<u32> = (0..count).map(|_| row(random, image)).collect();
     if count > 400 {
-        let first = random.below(JOB_END - MOST as u32 + 1);
+        let first = random.below(DATA_END - MOST as u32 + 1);
         rows = (first..first + count as u32).collect();
     }
     rows.sort_unstable();
@@ -40,92 +76,58 @@ fn row(random: &mut Random, image: &Image) -> u32 {
         0 => random.pick(&[0, 1, 0x3f, 0x40, 0xc0, 0xf3e, 0xf3f]),
         1 | 2 => random.pick(&image.pages) * 64 + random.below(64),
         3..=5 => random.pick(&image.busy),
-        _ => random.below(JOB_END),
+        _ => random.below(DATA_END),
     };
-    row % JOB_END
+    row % DATA_END
 }
 
 fn entry(random: &mut Random, image: &Image, row: u32) -> Entry {
-    let kind = random.below(2) as u8;
+    let kind = random.pick(&[ECC, RAW]);
     let value = match kind {
-        0 if random.coin() => random.pick(&image.values),
-        0 => random.below(0x1_0000),
+        ECC if random.coin() => random.pick(&image.values),
+        ECC => random.below(0x1_0000),
         _ if random.once_in(4) => random.pick(&[0, 1, LARGEST]),
         _ => random.below(LARGEST + 1),
     };
     Entry { row, kind, value }
 }
 
-/// A job file: more than half are good, the others are spoilt once, some of them twice.
-pub fn file(random: &mut Random, entries: &[Entry]) -> Vec<u8> {
-    let mut list = entries.to_vec();
-    let (in_entries, in_bytes) = random.pick(&[(0, 0), (0, 0), (0, 0), (0, 0), (0, 0), (1, 0), (2, 0), (0, 1), (1, 1)]);
-    for _ in 0..in_entries {
-        spoil_entries(random, &mut list);
-    }
-    let mut file = bytes(&list);
-    for _ in 0..in_bytes {
-        spoil_bytes(random, &mut file);
-    }
-    file
+/// Lock rows that rise, after these data rows: few, or as many as there are and the job has room for.
+fn locks(random: &mut Random, image: &Image, data: &[Entry]) -> Vec<Entry> {
+    let room = MOST - data.len();
+    let mut rows: Vec<u32> = match random.below(64) {
+        0 => (LOCK_ROWS..ROWS as u32).collect(),
+        1..=6 => vec![0xffe, 0xfff],
+        _ => (0..1 + random.below(5)).map(|_| locking(random, image, data)).collect(),
+    };
+    rows.sort_unstable();
+    rows.dedup();
+    rows.truncate(room);
+    let kind = RAW;
+    let each = rows.into_iter().map(|row| {
+        let value = lock_value(random, row);
+        Entry { row, kind, value }
+    });
+    each.collect()
 }
 
-/// Spoils an entry, in one way or not at all: kind, value, row too high, rows that do not rise.
-fn spoil_entries(random: &mut Random, list: &mut [Entry]) {
-    if list.is_empty() {
-        return;
-    }
-    let i = random.below(list.len() as u32) as usize;
-    let before = list[i.saturating_sub(1)].row;
-    let entry = &mut list[i];
+/// A lock row: of a page that the job writes, of one that calls turn to, of one whose keys others take, or any.
+fn locking(random: &mut Random, image: &Image, data: &[Entry]) -> u32 {
+    let page = match random.below(4) {
+        0 if !data.is_empty() => owner(random.pick(data).row) as u32,
+        1 => random.pick(&image.pages),
+        2 => random.pick(&[0, 31, 32, 62, 63]),
+        _ => random.below(64),
+    };
+    LOCK_ROWS + 2 * page + random.below(2)
+}
+
+/// What a lock row is burnt with: a setting in its three copies, one of these alone, nothing, all bits, or any.
+fn lock_value(random: &mut Random, row: u32) -> u32 {
     match random.below(8) {
-        0 => entry.kind = random.pick(&[2, 3, 0x10, 0xff]),
-        1 => {
-            *entry = Entry {
-                kind: 0,
-                value: random.pick(&[0x1_0000, 0x1_0001, LARGEST]),
-                ..*entry
-            }
-        }
-        2 => entry.row = random.pick(&[JOB_END, JOB_END + 1, 0xf48, 0xf80, 0xfff, 0x1000, 0xffff]),
-        3 => entry.row = before,
-        4 => entry.row = before.saturating_sub(1),
-        5 => list.swap(i.saturating_sub(1), i),
-        _ => {}
-    }
-}
-
-/// Spoils the bytes, in one way or not at all: mark, version, count, length.
-fn spoil_bytes(random: &mut Random, file: &mut Vec<u8>) {
-    let length = file.len() as u32;
-    match random.below(12) {
-        0 => file.truncate(random.below(8) as usize),
-        1 => file.truncate(random.below(length + 1) as usize),
-        2 => file.truncate((length - length.min(1)) as usize),
-        3 => file.extend(vec![0; random.pick(&[1, 2, 5, 6, 7, 12])]),
-        4 | 5 => change(random, file, 0, 3),
-        6 => change(random, file, 3, 2),
-        7 => change(random, file, 5, 2),
-        8 => over_count(random, file),
-        _ => {}
-    }
-}
-
-/// Changes one byte of a part, where the file has it.
-fn change(random: &mut Random, file: &mut [u8], first: u32, count: u32) {
-    let place = (first + random.below(count)) as usize;
-    if let Some(byte) = file.get_mut(place) {
-        *byte ^= 1 << random.below(8);
-    }
-}
-
-/// A count above the largest, with or without the entries to go with it.
-fn over_count(random: &mut Random, file: &mut Vec<u8>) {
-    let count = random.pick(&[MOST + 1, MOST + 2, 0xffff]);
-    if random.coin() && count < 1000 {
-        let list: Vec<Entry> = (0..count as u32).map(|row| Entry { row, kind: 1, value: 0 }).collect();
-        *file = bytes(&list);
-    } else if file.len() >= 7 {
-        file[5..7].copy_from_slice(&(count as u16).to_le_bytes());
+        0 => random.pick(&[0, 1, 0x100, 0x10100, LARGEST]),
+        1 => random.below(LARGEST + 1),
+        2 => 0x01_0101 << random.below(8),
+        _ => lock_row(random, row % 2 == 1),
     }
 }

@@ -1,25 +1,14 @@
-//! Job files: their bytes, their judging entry by entry, and their burning pulse by pulse.
+//! Jobs of either version: their judging entry by entry, and their burning pulse by pulse.
 
 use crate::fault::Fault;
+use crate::form::{Entry, ECC};
 use crate::ladder::need;
+use crate::locks::{latch, owner};
 use crate::model::Model;
 use crate::permission::may_write;
 use crate::row::{bit, within};
-use crate::shape::{Answer, Outcome, State, LARGEST, ROWS, SECURE};
+use crate::shape::{Answer, Outcome, State, LARGEST, LOCK_ROWS, ROWS, SECURE};
 use crate::tallies::{kept, Named};
-
-/// Rows from here up are no business of a job.
-pub const JOB_END: u32 = 0xf40;
-/// The largest count of a job file.
-pub const MOST: usize = 512;
-
-/// One entry as the file gives it.
-#[derive(Clone, Copy, Debug, PartialEq, Eq)]
-pub struct Entry {
-    pub row: u32,
-    pub kind: u8,
-    pub value: u32,
-}
 
 /// What an entry burns: the bits that are to stand in its row.
 struct Burn {
@@ -27,76 +16,68 @@ struct Burn {
     bits: u32,
 }
 
-fn number(bytes: &[u8]) -> u32 {
-    bytes.iter().rev().fold(0, |high, byte| high * 256 + u32::from(*byte))
-}
-
-/// Takes the bytes apart, or refuses with 10.
-fn entries(job: &[u8]) -> Result<Vec<Entry>, u32> {
-    need(job.len() >= 7, 10)?;
-    need(job[0..3] == [0x4f, 0x54, 0x4a], 10)?;
-    need(number(&job[3..5]) == 1, 10)?;
-    let count = number(&job[5..7]) as usize;
-    need(count <= MOST, 10)?;
-    need(job.len() == 7 + 6 * count, 10)?;
-    let mut list = Vec::new();
-    for part in job[7..].chunks(6) {
-        let entry = Entry {
-            row: number(&part[0..2]),
-            kind: part[2],
-            value: number(&part[3..6]),
-        };
-        need(entry.kind == 1 || (entry.kind == 0 && entry.value <= 0xffff), 10)?;
-        list.push(entry);
+impl Burn {
+    fn at_lock(&self) -> bool {
+        self.row >= LOCK_ROWS as usize
     }
-    Ok(list)
 }
 
 impl Model {
-    /// Refuses with 11 unless every row is below 0xf40 and above the row before it.
-    fn rising(&self, list: &[Entry]) -> Result<(), u32> {
-        for (i, entry) in list.iter().enumerate() {
-            need(entry.row < JOB_END, 11)?;
-            if i > 0 {
-                let before = list[i - 1].row;
-                let same = self.has(Fault::EqualRows) && entry.row == before;
-                need(entry.row > before || same, 11)?;
-            }
-        }
-        Ok(())
-    }
-
     /// Judges one entry: 7, then 3, then 9.
     fn judge(&self, rows: &[u32], state: &State, entry: &Entry) -> Result<Burn, u32> {
-        let row = entry.row as usize;
+        // Only a fault lets a row above 4,095 come here.
+        let row = entry.row as usize % ROWS;
         let old = rows[row];
         need(old <= LARGEST || !self.has(Fault::SizeFirst), 3)?;
-        need(may_write(self.fault, state, SECURE, entry.row), 7)?;
+        need(self.may_burn(state, row as u32), 7)?;
         need(old <= LARGEST, 3)?;
         let bits = match entry.kind {
-            0 => self.codes.polarity(entry.value, old).ok_or(9u32)?,
+            ECC => self.codes.polarity(entry.value, old).ok_or(9u32)?,
             _ => entry.value,
         };
         Ok(Burn { row, bits })
     }
 
+    /// Whether Secure may write the row. A lock row goes by its own word's Secure level and by page 62's or 63's keys.
+    fn may_burn(&self, state: &State, row: u32) -> bool {
+        let fault = match self.fault {
+            Some(Fault::JobLockUnjudged) if row >= LOCK_ROWS => return true,
+            Some(Fault::JobLockOwnWord) => Some(Fault::LockRowOwnWord),
+            other => other,
+        };
+        may_write(fault, state, SECURE, row)
+    }
+
     /// Runs a job, or with a limit rehearses it.
     pub fn job(&self, rows: &mut [u32], state: &State, job: &[u8], limit: Option<u32>) -> Result<Outcome, u32> {
-        let list = self.accepted(rows, job)?;
+        need(rows.len() == ROWS, 1)?;
+        let list = self.taken_apart(job)?.entries;
         let mut burns = Vec::new();
         for (place, entry) in list.iter().enumerate() {
-            match self.judge(rows, state, entry) {
+            let latched = match self.has(Fault::LockRefusesLater) {
+                true => latched_anew(rows, state, &burns),
+                false => *state,
+            };
+            match self.judge(rows, &latched, entry) {
                 Ok(burn) => burns.push(burn),
                 Err(number) => return Ok(self.refused_at(rows, state, &burns, limit, place as u32, number)),
             }
         }
         let old: Vec<u32> = burns.iter().map(|burn| rows[burn.row]).collect();
         let answer = self.burnt(rows, &burns, limit);
-        let state = match self.has(Fault::RehearsalUncount) && limit.is_some() {
-            true => *state,
-            false => kept(self.fault, state, &named(&burns, &old, rows)),
-        };
+        let state = self.left(rows, state, &burns, &old, limit);
         Ok(Outcome { answer, state })
+    }
+
+    /// The state that a done job leaves: nothing latched changes but the tallies.
+    fn left(&self, rows: &[u32], state: &State, burns: &[Burn], old: &[u32], limit: Option<u32>) -> State {
+        let named = named(burns, old, rows);
+        match self.fault {
+            Some(Fault::RehearsalUncount) if limit.is_some() => *state,
+            Some(Fault::JobLatches) => kept(None, &latched_anew(rows, state, burns), &named),
+            Some(Fault::JobTallyLockWord) => kept(Some(Fault::TallyByLockWord), state, &named),
+            fault => kept(fault, state, &named),
+        }
     }
 
     /// The refusal of an entry: nothing is burnt and nothing is counted, also of the entries before it.
@@ -137,28 +118,29 @@ impl Model {
         if self.has(Fault::PlaceAtLimit) && limit == Some(pulses) {
             place = place.min(last);
         }
+        if self.has(Fault::PlaceDataOnly) {
+            place = place.min(burns.iter().filter(|burn| !burn.at_lock()).count() as u32);
+        }
         Answer::burnt(place, pulses)
-    }
-
-    /// The entries of a job, or the refusals that name no entry: 1, 10, 11.
-    fn accepted(&self, rows: &[u32], job: &[u8]) -> Result<Vec<Entry>, u32> {
-        need(rows.len() == ROWS, 1)?;
-        let list = entries(job)?;
-        self.rising(&list)?;
-        Ok(list)
     }
 
     /// Burns one bit at a time, lowest first, until all stand or the limit is reached.
     /// Gives the pulses, and the entry of the last pulse counted from 1.
     fn burn(&self, rows: &mut [u32], burns: &[Burn], limit: Option<u32>) -> (u32, u32) {
         let (mut pulses, mut last) = (0, 0);
-        for (i, burn) in burns.iter().enumerate() {
+        let mut order: Vec<(usize, &Burn)> = burns.iter().enumerate().collect();
+        if self.has(Fault::LocksFirst) {
+            order.sort_by_key(|(_, burn)| !burn.at_lock());
+        }
+        for (i, burn) in order {
+            let whole = self.has(Fault::CutLockWhole) && burn.at_lock();
+            let from = pulses;
             for step in 0..24 {
                 let place = if self.has(Fault::BitsDownward) { 23 - step } else { step };
                 if !bit(burn.bits, place) || bit(rows[burn.row], place) {
                     continue;
                 }
-                if limit == Some(pulses) {
+                if limit.is_some_and(|limit| pulses >= limit) && !(whole && pulses > from) {
                     return (pulses, last);
                 }
                 rows[burn.row] |= 1 << place;
@@ -179,6 +161,16 @@ fn named(burns: &[Burn], old: &[u32], rows: &[u32]) -> Vec<Named> {
         whole: old | burn.bits,
     });
     each.collect()
+}
+
+/// For faults: the state with the lock words of these burns latched as they will be.
+fn latched_anew(rows: &[u32], state: &State, burns: &[Burn]) -> State {
+    let (mut rows, mut state) = (rows.to_vec(), *state);
+    for burn in burns.iter().filter(|burn| burn.at_lock()) {
+        rows[burn.row] |= burn.bits;
+        latch(None, &rows, owner(burn.row as u32), &mut state);
+    }
+    state
 }
 
 /// How many leading entries have all their bits standing.

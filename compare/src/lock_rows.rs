@@ -19,7 +19,7 @@ const LEVELS: [([u8; 3], u8); 5] = [
 ];
 
 /// Every state of the choices for one lock word. The word is set last: that of page 62 or 63 is then as its own choice says.
-fn states(word: usize) -> Vec<State> {
+pub fn states(word: usize) -> Vec<State> {
     let mut states = Vec::new();
     for entered in [false, true] {
         for (of_62, of_63) in SETTINGS.iter().flat_map(|a| SETTINGS.iter().map(move |b| (*a, *b))) {

@@ -4,14 +4,15 @@ use crate::arguments;
 use crate::bench::{Bench, Difference};
 use crate::call::{Call, Chip};
 use crate::code::Codes;
+use crate::form::Entry;
 use crate::images::{too_large, Image};
 use crate::jobfiles;
-use crate::jobs::Entry;
 use crate::locks::{key_page, owner};
 use crate::random::Random;
 use crate::recount::tallies_are_right;
 use crate::sequences;
 use crate::shape::{State, ROWS};
+use crate::spoilt;
 use crate::states;
 
 /// How many calls one image is met by.
@@ -22,7 +23,7 @@ pub fn run(bench: &mut Bench, codes: &Codes, sound: &dyn Chip, calls: u64, seed:
     let mut random = Random::new(seed);
     while bench.counts.calls < calls {
         let room = calls - bench.counts.calls;
-        if room >= sequences::MOST_CALLS && random.coin() {
+        if room >= sequences::MOST_CALLS && !random.once_in(4) {
             sequences::cut(&mut random, bench, codes)?;
         } else {
             episode(&mut random, bench, codes, sound, room.min(EPISODE))?;
@@ -156,11 +157,11 @@ fn stir_job(random: &mut Random, bench: &mut Bench, image: &Image, codes: &Codes
 
 /// Draws a job or a rehearsal.
 fn job(random: &mut Random, bench: &mut Bench, image: &Image, codes: &Codes, sound: &dyn Chip, made: Made) -> Call {
-    let entries = jobfiles::entries(random, image);
+    let draft = jobfiles::draft(random, image);
     if made != Made::ByCalls {
-        stir_job(random, bench, image, codes, &entries);
+        stir_job(random, bench, image, codes, &draft.entries);
     }
-    let job = jobfiles::file(random, &entries);
+    let job = spoilt::file(random, &draft);
     if random.once_in(3) {
         return Call::RunJob { job };
     }

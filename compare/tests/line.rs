@@ -2,7 +2,7 @@
 
 use std::fs;
 
-const LINE: [&str; 17] = [
+const LINE: [&str; 18] = [
     "part",
     "shape",
     "call",
@@ -18,6 +18,7 @@ const LINE: [&str; 17] = [
     "model",
     "access",
     "latches",
+    "form",
     "jobs",
     "calls",
 ];

@@ -2,8 +2,8 @@
 //! on the pages that it names and on the others, and that nothing else touches them.
 
 use compare::call::{Call, Chip};
+use compare::form::Entry;
 use compare::jobfiles::bytes;
-use compare::jobs::Entry;
 use compare::model::Model;
 use compare::shape::{Outcome, State, LARGEST, ROWS, SECURE};
 

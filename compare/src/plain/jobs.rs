@@ -40,8 +40,12 @@ fn entries(job: &[u8]) -> impl Iterator<Item = Entry> + '_ {
     job[HEAD..].chunks_exact(ENTRY).map(Entry::new)
 }
 
+fn version(job: &[u8]) -> u16 {
+    u16::from_le_bytes([job[3], job[4]])
+}
+
 fn malformed(job: &[u8]) -> bool {
-    if job.len() < HEAD || job[..5] != [0x4f, 0x54, 0x4a, 1, 0] {
+    if job.len() < HEAD || job[..3] != [0x4f, 0x54, 0x4a] || !(1..=2).contains(&version(job)) {
         return true;
     }
     let count = usize::from(u16::from_le_bytes([job[5], job[6]]));
@@ -49,9 +53,11 @@ fn malformed(job: &[u8]) -> bool {
 }
 
 fn out_of_order(job: &[u8]) -> bool {
+    let locks = version(job) == 2;
     let mut least = 0;
     for entry in entries(job) {
-        if entry.row >= 0xf40 || entry.row < least {
+        let lock = locks && entry.kind == 1 && (0xf80..ROWS as u32).contains(&entry.row);
+        if (entry.row >= 0xf40 && !lock) || entry.row < least {
             return true;
         }
         least = entry.row + 1;
