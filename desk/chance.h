@@ -92,6 +92,17 @@ static uint32_t write_job(uint32_t count)
     return HEAD + ENTRY * count;
 }
 
+/* Makes a job one of version 2, whose last entries may be raw ones of ascending lock rows. Now and then a row is past the last. */
+static void lock_up(uint32_t count)
+{
+    uint32_t row = FIRST_LOCK_ROW + below(8);
+    job[3] = 2;
+    for (uint32_t i = count - below(1 + (count < 8 ? count : 8)); i < count; i++) {
+        put_entry(i, row, 1, some_bits());
+        row += 1 + below(20);
+    }
+}
+
 /* Flips one bit of some bytes. */
 static void flip(uint8_t *bytes, uint32_t count)
 {
@@ -118,7 +129,7 @@ static uint32_t spoil(uint32_t length, uint32_t count)
         put_entry(at, 0, 0, 0x10000 + below(0xff0000));
         return length;
     default:
-        put_entry(at, EDGE(0, FIRST_KEPT_ROW, 0xffff), 1, 1);
+        put_entry(at, EDGE(0, FIRST_KEPT_ROW, FIRST_LOCK_ROW - 1, FIRST_LOCK_ROW, OTP_ROWS, 0xffff), below(2), 1);
         return length;
     }
 }
@@ -127,6 +138,8 @@ static uint32_t some_job(void)
 {
     uint32_t count = once_in(40) ? EDGE(512, 513) : below(12);
     uint32_t length = write_job(count);
+    if (once_in(3))
+        lock_up(count);
     return once_in(3) ? spoil(length, count) : length;
 }
 
