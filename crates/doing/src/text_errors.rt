@@ -37,6 +37,8 @@ fn of_form(why: Why) {
         Why::Extra => print::line(b"a line has a row, a kind and a value; a comment begins with #"),
         Why::Number => print::line(b"no number of 32 bits, in decimal or after 0x"),
         Why::Kind => print::line(b"a kind is ecc or raw"),
+        Why::Version => print::line(b"a version line is 'version 1' or 'version 2'"),
+        Why::NotFirst => print::line(b"a version line stands once, before all entries"),
         _ => print::line(b"a raw value is at most 16,777,215, 0xffffff"),
     }
 }
@@ -45,7 +47,11 @@ fn of_form(why: Why) {
 fn reason(why: Why) {
     match why {
         Why::EccValue => print::line(b"an ECC value is at most 65,535, 0xffff"),
-        Why::High => print::line(b"a job's rows end at 0xf3f"),
+        Why::High => print::line(b"a version 1 job's rows end at 0xf3f"),
+        Why::Kept => print::line(b"data rows end at 0xf3f, and lock rows begin at 0xf80"),
+        Why::Past => print::line(b"lock rows end at 0xfff"),
+        Why::Coded => print::line(b"an entry of a lock row is raw"),
+        Why::Late => print::line(b"a data row comes before all lock rows"),
         Why::Order => print::line(b"it is not above the row before it"),
         Why::Count => print::line(b"a job has at most 512 entries"),
         _ => of_form(why),

@@ -24,9 +24,6 @@ use typed::words::part;
 // Room for one entry more than a job has, so that the library can say that it is too many: 7 bytes, and 6 for each of 513 entries.
 type Room = [u8; 3085];
 
-// The version of the jobs that a text gives.
-const VERSION: u32 = 1;
-
 // What the library finds wrong, at which entry, and with which of its words.
 struct Found {
     why: Why,
@@ -44,6 +41,10 @@ fn found_at(fault: Fault) -> Found {
         Fault::Kind(entry) => at(Why::Kind, entry, 1),
         Fault::Value(entry) => at(Why::EccValue, entry, 2),
         Fault::High(entry) => at(Why::High, entry, 0),
+        Fault::Kept(entry) => at(Why::Kept, entry, 0),
+        Fault::Past(entry) => at(Why::Past, entry, 0),
+        Fault::Coded(entry) => at(Why::Coded, entry, 1),
+        Fault::Late(entry) => at(Why::Late, entry, 0),
         Fault::Order(entry) => at(Why::Order, entry, 0),
         _ => at(Why::Count, MOST_ENTRIES, 0),
     }
@@ -95,7 +96,7 @@ fn of_text(words: Words, text: &[u8]) {
         text_errors::line(words.first, text, reading, reading.word, why);
         return;
     }
-    put_head(&mut job, VERSION, reading.count);
+    put_head(&mut job, reading.version, reading.count);
     judged(words, text, whole(&job, reading.count), reading.count);
 }
 

@@ -17,11 +17,12 @@ use Rattle.form.specs.declared.entries.Entry as entry
 use Rattle.form.proofs.WholeJob.{AllFit, job-entries}
 use Rattle.text.specs.Lines.{isCut, numberAt, ecc, raw, entryOf, withValue, withKind, withRow, hasWord, lineOf}
 use Rattle.typed.specs.Words.{wordOf}
+use Rattle.text.specs.Versions.{version, one, two, versionNamed, saidBy}
 use Rattle.text.specs.Jobs.{begun, passed, stopped, nextOf, readBy, entryBy, goesOn, readFrom, entriesFrom, mostLines, readingOf, entriesOf}
 use Rattle.typed.specs.declared.numbers.Number.{Number}
 use Rattle.typed.specs.declared.numbers.Number.the-variants.{Is, Not}
 use Rattle.text.specs.declared.entries.Line.{Line}
-use Rattle.text.specs.declared.entries.Line.the-variants.{Empty, Entry, Wrong}
+use Rattle.text.specs.declared.entries.Line.the-variants.{Empty, Version, Entry, Wrong}
 use Rattle.text.specs.declared.entries.Why.the-variants as why
 use Rattle.text.specs.declared.jobs.Reading.{Reading}
 
@@ -30,6 +31,7 @@ use Rattle.text.specs.declared.jobs.Reading.{Reading}
 count-by : (text : List ℕ) (reading : Reading) (line : Line) → readBy text reading line .count ≡ reading .count + length (entryBy line)
 unfolding passed stopped
 count-by text reading Empty = omega arith
+count-by text reading (Version version) = omega arith
 count-by text reading (Entry entry) = refl
 count-by text reading (Wrong word why) = omega arith
 
@@ -89,9 +91,22 @@ fit-line line =
     (both-ways Fit (not (hasWord line 2)) (Wrong 1 why.Missing) _ tt
     (both-ways Fit (hasWord line 3) (Wrong 3 why.Extra) (withRow line (numberAt line 0)) tt (fit-row line (numberAt line 0)))))
 
+fit-named : (line : List ℕ) → Fit (versionNamed line)
+unfolding versionNamed AllFit
+fit-named line = both-ways Fit (same (wordOf line 1) one) (Version 1) _ tt (both-ways Fit (same (wordOf line 1) two) (Version 2) (Wrong 1 why.Version) tt tt)
+
+fit-said : (first : Bool) (line : List ℕ) → Fit (saidBy first line)
+unfolding saidBy AllFit
+fit-said first line =
+    both-ways Fit (not (same (wordOf line 0) version)) (lineOf line) _ (fit-line line)
+    (both-ways Fit (not first) (Wrong 0 why.NotFirst) _ tt
+    (both-ways Fit (not (hasWord line 1)) (Wrong 0 why.Version) _ tt
+    (both-ways Fit (hasWord line 2) (Wrong 2 why.Version) (versionNamed line) tt (fit-named line))))
+
 fit-more : (line : Line) (others : List entry.Entry) → Fit line → AllFit others → AllFit (entryBy line ++ others)
 unfolding AllFit
 fit-more Empty others fit rest = rest
+fit-more (Version version) others fit rest = rest
 fit-more (Entry entry) others fit rest = (fit .0, rest)
 fit-more (Wrong word why) others fit rest = rest
 
@@ -100,7 +115,7 @@ unfolding entriesFrom AllFit
 fit-from text most zero reading = tt
 fit-from text most (suc lines) reading =
     both-ways AllFit (goesOn text most reading) _ []
-    (fit-more (nextOf text reading) _ (fit-line _) (fit-from text most lines (readBy text reading (nextOf text reading))))
+    (fit-more (nextOf text reading) _ (fit-said (reading .first) _) (fit-from text most lines (readBy text reading (nextOf text reading))))
     tt
 
 -- ---- a head that is put after the entries

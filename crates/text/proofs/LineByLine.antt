@@ -9,7 +9,7 @@ use Rattle.form.specs.Writing.{withEntries}
 use Rattle.form.specs.declared.entries.Entry as form
 use Rattle.text.specs.Jobs.{passed, stopped, nextOf, readBy, entryBy, goesOn, readFrom, entriesFrom, mostLines}
 use Rattle.text.specs.declared.entries.Line.{Line}
-use Rattle.text.specs.declared.entries.Line.the-variants.{Empty, Entry, Wrong}
+use Rattle.text.specs.declared.entries.Line.the-variants.{Empty, Version, Entry, Wrong}
 use Rattle.text.specs.declared.jobs.Reading.{Reading}
 
 module _ (text : List ℕ) (reading : Reading) where
@@ -17,12 +17,14 @@ module _ (text : List ℕ) (reading : Reading) where
   pub one-line : (line : Line) → readBy text reading line .line ≡ reading .line + 1
   unfolding passed stopped
   one-line Empty = refl
+  one-line (Version version) = refl
   one-line (Entry entry) = refl
   one-line (Wrong word why) = refl
 
   pub one-entry : (line : Line) → readBy text reading line .count ≤ reading .count + 1
   unfolding passed stopped
   one-entry Empty = omega arith
+  one-entry (Version version) = omega arith
   one-entry (Entry entry) = omega arith
   one-entry (Wrong word why) = omega arith
 
@@ -31,6 +33,7 @@ module _ (text : List ℕ) (reading : Reading) where
       → withEntries job (reading .count) (entryBy line ++ others) ≡ withEntries (withEntries job (reading .count) (entryBy line)) (readBy text reading line .count) others
   unfolding passed stopped withEntries
   put-first job Empty others = refl
+  put-first job (Version version) others = refl
   put-first job (Entry entry) others = refl
   put-first job (Wrong word why) others = refl
 

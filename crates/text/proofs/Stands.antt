@@ -4,20 +4,21 @@ use mathlib.Core.Path.{_≡_, refl}
 use mathlib.Core.Bool.{Bool, true, false}
 use Prim.Native.Nat.{ℕ, _≤_, _<_, min}
 use native.Mathlib.Omega.{arith}
-use borrow.Author.Tests.{lt-ltb, le-leb, leb-true, leb-false}
+use borrow.Author.Tests.{lt-ltb, le-ltb, le-leb, leb-true, leb-false}
 use lib.Dec.{leb}
-use Rattle.form.specs.Faults.{formFault, orderFault}
+use Rattle.form.specs.Faults.{formFault, rowFault}
 use Rattle.form.specs.declared.entries.Entry.{Entry}
 
 -- a row, a kind and a value of any size
 abbrev typed : ℕ → ℕ → ℕ → Entry
 typed row kind value = record { row = row; kind = kind; value = value }
 
--- a row above 16 bits is from 0xf40 up, and so is the largest
-pub row-stands : (i least row kind value : ℕ) → orderFault i least (typed (min row 0xffff) kind value) ≡ orderFault i least (typed row kind value)
-row-stands i least row kind value = go (leb row 0xffff) refl
+-- a row above 16 bits is from 0xf40 up and above 4,095, and so is the largest: in either version it has the same fault
+pub row-stands : (version i least row kind value : ℕ)
+    → rowFault version i least (typed (min row 0xffff) kind value) ≡ rowFault version i least (typed row kind value)
+row-stands version i least row kind value = go (leb row 0xffff) refl
   where
-    go : (t : Bool) → leb row 0xffff ≡ t → orderFault i least (typed (min row 0xffff) kind value) ≡ orderFault i least (typed row kind value)
+    go : (t : Bool) → leb row 0xffff ≡ t → rowFault version i least (typed (min row 0xffff) kind value) ≡ rowFault version i least (typed row kind value)
     go true fits =
         let small : row ≤ 0xffff = leb-true row 0xffff fits in
         let own : min row 0xffff ≡ row = omega arith in
@@ -25,7 +26,7 @@ row-stands i least row kind value = go (leb row 0xffff) refl
     go false large =
         let high : 0xffff < row = leb-false row 0xffff large in
         let most : min row 0xffff ≡ 0xffff = omega arith in
-        rw (most, le-leb 0xf40 row (omega arith))
+        rw (most, le-leb 0xf40 row (omega arith), le-ltb row 0xf80 (omega arith), lt-ltb 4095 row (omega arith))
 
 -- an ECC value above 24 bits is above 65,535, and so is the largest
 pub value-stands : (i row value : ℕ) → formFault i (typed row 0 (min value 0xffffff)) ≡ formFault i (typed row 0 value)

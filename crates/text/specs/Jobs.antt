@@ -6,24 +6,26 @@ use lib.Dec.{ltb}
 use lib.ListN.{length}
 use Rattle.answer.specs.Choice.{if_then_else_}
 use Rattle.form.specs.declared.entries.Entry as form
-use Rattle.text.specs.Lines.{lineOf}
+use Rattle.text.specs.Versions.{saidBy}
 use Rattle.typed.specs.Words.{lineAt, nextLine}
 use Rattle.text.specs.declared.entries.Line.{Line}
-use Rattle.text.specs.declared.entries.Line.the-variants.{Empty, Entry, Wrong}
+use Rattle.text.specs.declared.entries.Line.the-variants.{Empty, Version, Entry, Wrong}
 use Rattle.text.specs.declared.entries.Why.{Why}
 use Rattle.text.specs.declared.entries.Why.the-variants as why
 use Rattle.text.specs.declared.jobs.Reading.{Reading}
 
--- nothing is read yet
+-- nothing is read yet: the version is 1 where no line says another
 abbrev pub begun : Reading
-begun = record { line = 0; start = 0; next = 0; count = 0; going = true; word = 0; why = why.Nothing }
+begun = record { line = 0; start = 0; next = 0; first = true; version = 1; count = 0; going = true; word = 0; why = why.Nothing }
 
--- a line is read, and there are so many entries now
-unfoldable pub passed : List ℕ → Reading → ℕ → Reading
-passed text reading count = record {
+-- a line is read: whether no line has said anything yet, the version, and how many entries there are now
+unfoldable pub passed : List ℕ → Reading → Bool → ℕ → ℕ → Reading
+passed text reading first version count = record {
   line = reading .line + 1;
   start = reading .next;
   next = nextLine text (reading .next);
+  first = first;
+  version = version;
   count = count;
   going = true;
   word = 0;
@@ -36,6 +38,8 @@ stopped reading word why = record {
   line = reading .line + 1;
   start = reading .next;
   next = reading .next;
+  first = reading .first;
+  version = reading .version;
   count = reading .count;
   going = false;
   word = word;
@@ -44,17 +48,19 @@ stopped reading word why = record {
 
 -- the line that comes next
 abbrev pub nextOf : List ℕ → Reading → Line
-nextOf text reading = lineOf (lineAt text (reading .next))
+nextOf text reading = saidBy (reading .first) (lineAt text (reading .next))
 
 -- one line more, by what it says
 abbrev pub readBy : List ℕ → Reading → Line → Reading
-readBy text reading Empty = passed text reading (reading .count)
-readBy text reading (Entry entry) = passed text reading (reading .count + 1)
+readBy text reading Empty = passed text reading (reading .first) (reading .version) (reading .count)
+readBy text reading (Version version) = passed text reading false version (reading .count)
+readBy text reading (Entry entry) = passed text reading false (reading .version) (reading .count + 1)
 readBy text reading (Wrong word why) = stopped reading word why
 
 -- its entry, where it is one
 abbrev pub entryBy : Line → List form.Entry
 entryBy Empty = []
+entryBy (Version version) = []
 entryBy (Entry entry) = entry ∷ []
 entryBy (Wrong word why) = []
 

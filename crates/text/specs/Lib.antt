@@ -1,2 +1,3 @@
 pub mod Jobs
 pub mod Lines
+pub mod Versions

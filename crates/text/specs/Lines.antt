@@ -1,4 +1,4 @@
--- What a line of a job's text says: nothing, an entry, or that one of its words, counted from 0, is wrong.
+-- What a line of a job's text says of an entry: nothing, the entry, or that one of its words, counted from 0, is wrong.
 use Prim.Native.Nat.{ℕ, min}
 use mathlib.Core.Bool.{Bool, not, _&&_}
 use mathlib.Core.List.{List, [], _∷_}
@@ -32,8 +32,8 @@ raw = 114 ∷ 97 ∷ 119 ∷ []
 abbrev pub isCut : ℕ → ℕ → Bool
 isCut kind value = eqb kind 1 && ltb 0xffffff value
 
--- an entry has room for a row of 16 bits and a value of 24. For a larger one the largest stands, which a job may not have either; but a
--- raw value of 24 bits it may have, so a larger one is wrong here
+-- an entry has room for a row of 16 bits and a value of 24. For a larger one the largest stands, in which either version's rule finds the
+-- same fault; but in a raw value of 24 bits it finds none, so a larger one is wrong here
 unfoldable pub entryOf : ℕ → ℕ → ℕ → Line
 entryOf row kind value =
     if isCut kind value then Wrong 2 why.RawValue

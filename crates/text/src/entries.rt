@@ -11,7 +11,7 @@ use typed::words::part;
 use typed::words::same;
 use typed::words::word;
 
-// What is wrong with a word of a text. The last four are what the library finds wrong with the job that the text gives.
+// What is wrong with a word of a text. From `EccValue` on it is what the library finds wrong with the job that the text gives.
 pub enum Why {
     Nothing,
     Missing,
@@ -19,21 +19,28 @@ pub enum Why {
     Number,
     Kind,
     RawValue,
+    Version,
+    NotFirst,
     EccValue,
     High,
+    Kept,
+    Past,
+    Coded,
+    Late,
     Order,
     Count,
 }
 
-// What a line says: nothing, an entry, or that one of its words, counted from 0, is wrong.
+// What a line says: nothing, the job's version, an entry, or that one of its words, counted from 0, is wrong.
 pub enum Line {
     Empty,
+    Version(u32),
     Entry(Entry),
     Wrong(u32, Why),
 }
 
 // Whether a line has a word, counted from 0.
-fn has(line: &[u8], n: u32) -> bool
+pub fn has(line: &[u8], n: u32) -> bool
     ensures { λ r. ⌜ r ≡ spec.hasWord (now (line .entry)) n ⌝ }
 {
     let span = word(line, n);
@@ -49,7 +56,7 @@ fn number(line: &[u8], n: u32) -> Number
 }
 
 // Whether a word is the one named.
-fn is(line: &[u8], n: u32, name: &[u8]) -> bool
+pub fn is(line: &[u8], n: u32, name: &[u8]) -> bool
     ensures { λ r. ⌜ r ≡ same (wordOf (now (line .entry)) n) (now (name .entry)) ⌝ }
 {
     let span = word(line, n);

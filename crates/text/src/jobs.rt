@@ -3,19 +3,21 @@ ghost use mathlib.Core.Path.{_≡_};
 ghost use Prim.Native.Nat.{_<_};
 ghost use Rattle.form.specs.Writing.{withEntries};
 ghost use Rattle.text.specs.Jobs as spec;
-use crate::entries;
 use crate::entries::Line;
 use crate::entries::Why;
+use crate::versions;
 use form::writing::put_entry;
 use typed::words::line_at;
 use typed::words::next_line;
 
-// How far a text is read: the line that was read last, where it and the next begin, the entries so far, and what is wrong with which
-// word of the line. Once `going` is false, nothing more is read.
+// How far a text is read: the line that was read last, where it and the next begin, whether no line has said anything yet, the version and
+// the entries so far, and what is wrong with which word of the line. Once `going` is false, nothing more is read.
 pub struct Reading {
     pub line: u32,
     pub start: usize,
     pub next: usize,
+    pub first: bool,
+    pub version: u32,
     pub count: u32,
     pub going: bool,
     pub word: u32,
@@ -32,6 +34,8 @@ fn begun() -> Reading
         line: 0,
         start: 0,
         next: 0,
+        first: true,
+        version: 1,
         count: 0,
         going: true,
         word: 0,
@@ -39,16 +43,18 @@ fn begun() -> Reading
     }
 }
 
-// The line is read, and there are so many entries now.
-fn passed(text: &[u8], reading: Reading, count: u32) -> Reading
+// The line is read: whether no line has said anything yet, the version, and how many entries there are now.
+fn passed(text: &[u8], reading: Reading, first: bool, version: u32, count: u32) -> Reading
     requires { ⌜ reading .line < 65537 ⌝ }
-    ensures { λ r. ⌜ r ≡ spec.passed (now (text .entry)) reading count ⌝ }
+    ensures { λ r. ⌜ r ≡ spec.passed (now (text .entry)) reading first version count ⌝ }
 {
     let start = reading.next;
     Reading {
         line: reading.line + 1,
         start,
         next: next_line(text, start),
+        first,
+        version,
         count,
         going: true,
         word: 0,
@@ -66,6 +72,8 @@ fn stopped(reading: Reading, word: u32, why: Why) -> Reading
         line: reading.line + 1,
         start,
         next: start,
+        first: reading.first,
+        version: reading.version,
         count: reading.count,
         going: false,
         word,
@@ -82,11 +90,12 @@ fn step(text: &[u8], job: &mut [u8], reading: Reading) -> Reading
 {
     let start = reading.next;
     let count = reading.count;
-    match entries::read(line_at(text, start)) {
-        Line::Empty => passed(text, reading, count),
+    match versions::read(line_at(text, start), reading.first) {
+        Line::Empty => passed(text, reading, reading.first, reading.version, count),
+        Line::Version(version) => passed(text, reading, false, version, count),
         Line::Entry(entry) => {
             put_entry(job, count, entry);
-            passed(text, reading, count + 1)
+            passed(text, reading, false, reading.version, count + 1)
         }
         Line::Wrong(word, why) => stopped(reading, word, why),
     }
