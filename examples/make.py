@@ -127,12 +127,12 @@ def image(name, rows):
     (FOLDER / name).write_bytes(b"".join(row.to_bytes(4, "little") for row in rows))
 
 
-def job(name, entries):
-    """Three bytes, version 1, the count, and six bytes an entry: row, kind (0 is ECC, 1 is raw), value."""
+def job(name, entries, version=1):
+    """Three bytes, the version, the count, and six bytes an entry: row, kind (0 is ECC, 1 is raw), value."""
     body = b"".join(
         row.to_bytes(2, "little") + bytes([kind]) + value.to_bytes(3, "little") for row, kind, value in entries
     )
-    (FOLDER / name).write_bytes(b"OTJ" + (1).to_bytes(2, "little") + len(entries).to_bytes(2, "little") + body)
+    (FOLDER / name).write_bytes(b"OTJ" + version.to_bytes(2, "little") + len(entries).to_bytes(2, "little") + body)
 
 
 ECC, RAW = 0, 1
@@ -151,3 +151,7 @@ job("card.job", [(0x0C0 + i, ECC, v) for i, v in enumerate(CARD)])
 job("clash.job", [(0x0C0, ECC, 0x5053), (0x0C1, ECC, 0x004C), (0x0C2, ECC, 1), (0x0C3, ECC, 1)])
 # Its second entry is refused with 7 on locked.img, unless key 1 is entered. Raw entries burn flags.
 job("keyed.job", [(0x038, RAW, 0x000005), (0x1C1, ECC, 0x2026), (0x1C2, RAW, 0x010101)])
+# Version 2, as lock.txt and seal.txt have them: a value, and then the lock of its page. The first locks Non-secure alone, and completes after
+# any cut. The second locks Secure too, and so its own lock word: cut once two copies stand, it is refused with 7.
+job("lock.job", [(0x0C0, ECC, 1), (0xF87, RAW, 0x040404)], version=2)
+job("seal.job", [(0x0C0, ECC, 1), (0xF87, RAW, 0x010101)], version=2)
