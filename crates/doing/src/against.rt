@@ -21,11 +21,11 @@ fn clash(old: u32, value: u16) {
 // The lines of a refused job. The levels are those of the entry at the answer's place.
 pub fn lines(rows: &[u32], levels: Levels, job: &[u8], answer: Answer) {
     job_refusals::headline(job, answer.number, answer.place);
+    let entry = entry_at(job, answer.place);
     if answer.number == 7 {
-        levels::of_entry(levels);
+        levels::of_entry(levels, entry.row);
     }
     if answer.number == 9 {
-        let entry = entry_at(job, answer.place);
         clash(row_at(rows, entry.row), (entry.value % 65536) as u16);
     }
     print::line(b"no row changes");

@@ -13,9 +13,15 @@ fn of_entry(job: &[u8], place: u32) {
     of_row(entry.row);
 }
 
-// ", entry 2, row 0x0c3 after row 0x0c4"
-fn after_entry(job: &[u8], place: u32) {
+// A fault of one entry.
+fn entry_fault(words: &[u8], job: &[u8], place: u32) {
+    print::text(words);
     of_entry(job, place);
+}
+
+// A fault of one entry beside the one before it: ", entry 2, row 0x0c3 after row 0x0c4".
+fn after_entry(words: &[u8], job: &[u8], place: u32) {
+    entry_fault(words, job, place);
     if place == 0 {
         return;
     }
@@ -24,18 +30,12 @@ fn after_entry(job: &[u8], place: u32) {
     print::row(before.row);
 }
 
-// A fault of one entry.
-fn entry_fault(words: &[u8], job: &[u8], place: u32) {
-    print::text(words);
-    of_entry(job, place);
-}
-
 // A fault of the job's head.
 fn head_fault(fault: Fault) {
     match fault {
         Fault::Short => print::text(b": short"),
         Fault::Mark => print::text(b": mark not 4f 54 4a"),
-        Fault::Version => print::text(b": version not 1"),
+        Fault::Version => print::text(b": version neither 1 nor 2"),
         Fault::Count => print::text(b": count above 512"),
         _ => print::text(b": length not 7 + 6 x count"),
     }
@@ -48,10 +48,11 @@ fn reason(job: &[u8], fault: Fault, place: u32) {
         Fault::Kind(at) => entry_fault(b": kind above 1", job, at),
         Fault::Value(at) => entry_fault(b": ECC value above 65,535", job, at),
         Fault::High(at) => entry_fault(b": from 0xf40 up", job, at),
-        Fault::Order(at) => {
-            print::text(b": not above the row before it");
-            after_entry(job, at);
-        }
+        Fault::Kept(at) => entry_fault(b": from 0xf40 to 0xf7f", job, at),
+        Fault::Past(at) => entry_fault(b": above 4,095", job, at),
+        Fault::Coded(at) => entry_fault(b": ECC entry at a lock row", job, at),
+        Fault::Late(at) => after_entry(b": data row after a lock row", job, at),
+        Fault::Order(at) => after_entry(b": not above the row before it", job, at),
         _ => head_fault(fault),
     }
 }

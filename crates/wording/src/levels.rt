@@ -4,6 +4,7 @@ ghost use Rattle.wording.specs.Rights as spec;
 use crate::callers;
 use chip::callers::BOOTLOADER;
 use chip::callers::SECURE;
+use chip::pages::Page;
 use chip::state::State;
 use permit::permission::caller_level;
 use permit::permission::row_key_level;
@@ -46,8 +47,22 @@ pub fn of_read(levels: Levels, caller: u32) {
     print::line(b", and a read needs both at most 1");
 }
 
+// A lock row goes by the levels of the page that it locks, and by the keys of the page that it stands in (erratum E28).
+fn lock_words(levels: Levels, row: u32) {
+    let owner = Page::owner(row);
+    let keys = Page::key_page(row);
+    print::number_after(b"   page ", owner.number as u32);
+    print::number_after(b", which it locks, has Secure level ", levels.secure);
+    print::number_after(b", page ", keys.number as u32);
+    print::number_after(b" has key level ", levels.key);
+}
+
 // A job's entries are written by Secure.
-pub fn of_entry(levels: Levels) {
-    words(levels, SECURE);
+pub fn of_entry(levels: Levels, row: u32) {
+    if Page::FIRST_LOCK_ROW <= row {
+        lock_words(levels, row);
+    } else {
+        words(levels, SECURE);
+    }
     print::line(b", and a write needs both at 0");
 }
