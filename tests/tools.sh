@@ -1,5 +1,5 @@
 # shellcheck shell=sh
-# What the shell of each session begins with: how images are made, those that several sessions make, a count of what is burnt in one, and
+# What the shell of each session begins with: how images and jobs are made, those that several sessions make, a count of what is burnt in one, and
 # how a long or odd name is shown.
 
 # Puts these words into an image, one to a row, from a row on: rows flags.img 0x0c0 0x060140 0x060040
@@ -10,6 +10,20 @@ rows() {
     printf "$(for word; do
         printf '\\%03o' $((word & 255)) $((word >> 8 & 255)) $((word >> 16 & 255)) $((word >> 24 & 255))
     done)" | dd of="$image" bs=4 seek="$row" conv=notrunc 2>/dev/null
+}
+
+# Makes a job of a version, sound or not, of entries that are each a row, a kind and a value: job 2 late.job 0xf87 1 0x010101 0x0c0 0 1
+job() {
+    version=$1 name=$2
+    shift 2
+    # shellcheck disable=SC2059 # the words are in the format
+    printf "OTJ$(
+        printf '\\%03o' "$version" 0 $(($# / 3)) 0
+        while [ $# -gt 0 ]; do
+            printf '\\%03o' $(($1 & 255)) $(($1 >> 8)) "$2" $(($3 & 255)) $(($3 >> 8 & 255)) $(($3 >> 16))
+            shift 3
+        done
+    )" >"$name"
 }
 
 # Burns so many bits of a page, from its first row up: fill bars.img 3 191
@@ -84,7 +98,7 @@ make_wrong_jobs() {
     printf 'OTJ\001\000\000\000' >none.job
     : >empty.job
     printf 'OTK\001\000\000\000' >mark.job
-    printf 'OTJ\002\000\000\000' >version.job
+    printf 'OTJ\003\000\000\000' >version.job
     printf 'OTJ\001\000\001\002' >count.job
     { cat count.job; head -c 3078 blank.img; } >many.job
     { printf 'OTJ\001\000\000\002'; head -c 3078 blank.img; } >longer.job
@@ -98,6 +112,19 @@ make_wrong_jobs() {
     { cat two; printf '\304\000\000\000\000\001'; } >value-2.job
     { cat two; printf '\300\000\000\001\000\000'; } >order-2.job
     { cat two; printf '\377\377\000\001\000\000'; } >high-2.job
+}
+
+# Jobs of version 2 that are none, each for another reason, and one of version 1 whose last row is a lock row.
+make_wrong_locks() {
+    job 1 old.job 0x0c0 0 1 0xf87 1 0x010101
+    job 2 kept.job 0x0c0 0 1 0xf40 1 1
+    job 2 kept-2.job 0xf87 1 0x010101 0xf7f 1 1
+    job 2 past.job 0x0c0 0 1 0xfff 1 1 0x1000 1 1
+    job 2 coded.job 0x0c0 0 1 0xf87 0 1
+    job 2 late.job 0x0c0 0 1 0xf80 1 1 0x0c1 0 1
+    job 2 data.job 0x0c0 0 1 0x0c0 0 1
+    job 2 same.job 0xf87 1 1 0xf87 1 1
+    job 2 kind-3.job 0x0c0 0 1 0xf40 2 1
 }
 
 # Each page of an image, its burnt bits and its bar, and the sum: as od counts them.

@@ -1,4 +1,7 @@
-// `otp list`: the entries of a job as the text that `otp write` takes, with both rows of an ECC value behind it, or why it has none.
+// `otp list`: the entries of a job as the text that `otp write` takes, with both rows of an ECC value behind it and, of a lock row, what it
+// locks; or why it has none.
+use board::lock_rows;
+use chip::pages::Page;
 use console::ended;
 use console::files::Length;
 use console::files::load_job;
@@ -9,6 +12,7 @@ use console::usage::asked;
 use form::entries::Entry;
 use form::entries::count_of;
 use form::entries::entry_at;
+use form::entries::version_of;
 use form::faults::fault_number;
 use form::faults::fault_of;
 use row::coding::inverted;
@@ -27,14 +31,31 @@ fn ecc(value: u16) {
     print::end();
 }
 
+// "raw 0x010101 # page 3: Secure level 1, Non-secure level 0, bootloader level 0": what is locked where the row was blank.
+fn raw(row: u32, value: u32) {
+    print::bits_after(b" raw ", value);
+    if Page::FIRST_LOCK_ROW <= row {
+        print::number_after(b" # page ", lock_rows::page_of(row));
+        print::text(b": ");
+        lock_rows::words(row, value);
+    }
+    print::end();
+}
+
 fn entry_line(entry: Entry) {
     print::row(entry.row);
     if entry.kind == 0 {
         ecc((entry.value % 65536) as u16);
         return;
     }
-    print::bits_after(b" raw ", entry.value);
-    print::end();
+    raw(entry.row, entry.value);
+}
+
+// A text without this line gives a job of version 1.
+fn first_line(version: u32) {
+    if version == 2 {
+        print::line(b"version 2");
+    }
 }
 
 fn lines(job: &[u8]) {
@@ -60,6 +81,7 @@ fn of_job(job: &[u8]) {
         ended::answered(number);
         return;
     }
+    first_line(version_of(job));
     lines(job);
     last_line(count_of(job));
     ended::answered(0);
