@@ -1,6 +1,7 @@
-// `otp rehearse`: a job judged and rehearsed, what it changes row by row, and what each page gains (document 01, "Jobs").
+// `otp rehearse`: a job judged and rehearsed, what it changes row by row, what it locks, and what each page gains (document 01, "Jobs").
 use crate::against;
 use crate::changes;
+use crate::locks;
 use answer::answers::Answer;
 use board::begin::Start;
 use board::begin::begin;
@@ -54,7 +55,7 @@ fn limit_words(words: Words, limit: u32) {
 }
 
 // The first line decides what a person does next, so it says where the limit cut the job.
-fn headline(answer: Answer, count: u32) {
+fn headline(before: &[u32; 4096], job: &[u8], answer: Answer, count: u32) {
     if answer.place == count {
         refusals::number_and_words(0);
         print::end();
@@ -62,6 +63,7 @@ fn headline(answer: Answer, count: u32) {
     }
     print::text(b"0: cut after ");
     print::counted(answer.pulses, b"pulse");
+    locks::among(before, job, answer);
     print::text(b": ");
     standing(answer, count);
     print::end();
@@ -69,7 +71,7 @@ fn headline(answer: Answer, count: u32) {
 
 fn show(before: &[u32; 4096], after: &[u32; 4096], job: &[u8], answer: Answer) {
     let count = count_of(job);
-    headline(answer, count);
+    headline(before, job, answer, count);
     print::end();
     if count == 0 {
         print::line(b"no row changes");
@@ -78,6 +80,7 @@ fn show(before: &[u32; 4096], after: &[u32; 4096], job: &[u8], answer: Answer) {
         changes::lines(before, after, job);
     }
     print::end();
+    locks::show(before, after, job, answer);
 }
 
 // Saves the image as the job leaves it, where that is asked for.
