@@ -13,6 +13,10 @@ fn on_an_image() {
         b"    job leaves it, never over the image or the job, and over another file only with --replace.",
     );
     print::line(
+        b"    Of a version 2 job it says what the next reset latches of each lock row, where the locks begin,",
+    );
+    print::line(b"    and what a cut after that means.");
+    print::line(
         b"./otp read IMAGE ROW [--raw | --vote 3 | --vote 8] [--as CALLER | --non-secure] [--key HEX32]",
     );
     print::line(
@@ -66,14 +70,18 @@ fn on_other_files() {
     print::line(b"    is 0 where they are the same, 1 where they differ.");
     print::line(b"./otp list JOB");
     print::line(
-        b"    The entries of a job as the text that `write` takes, with both rows of an ECC value.",
+        b"    The entries of a job as the text that `write` takes, with both rows of an ECC value, and what a",
     );
+    print::line(b"    lock row locks where it was blank.");
     print::line(b"./otp write TEXT JOB [--replace]");
     print::line(
         b"    Makes a job of a text: a line for each entry, as `0x0c0 ecc 320` or `0x0c1 raw 0x000003`,",
     );
     print::line(
-        b"    and comments after #. It writes over a job that is there only with --replace.",
+        b"    and comments after #. With `version 2` as its first line the last entries may be raw ones for",
+    );
+    print::line(
+        b"    lock rows, from 0xf80 up. It writes over a job that is there only with --replace.",
     );
     print::line(b"./otp code VALUE");
     print::line(b"    The code of a value, and the two rows that hold it.");
