@@ -113,7 +113,8 @@ static void flip(uint8_t *bytes, uint32_t count)
 /* Spoils a job in one place, and gives its length. */
 static uint32_t spoil(uint32_t length, uint32_t count)
 {
-    uint32_t at = count == 0 ? 0 : below(count);
+    uint32_t at = count == 0 ? 0 : below(count), kind = below(2);
+    uint32_t row = EDGE(0, FIRST_KEPT_ROW, FIRST_LOCK_ROW - 1, FIRST_LOCK_ROW, OTP_ROWS, 0xffff);
     switch (below(7)) {
     case 0:
         return below(length);
@@ -129,7 +130,7 @@ static uint32_t spoil(uint32_t length, uint32_t count)
         put_entry(at, 0, 0, 0x10000 + below(0xff0000));
         return length;
     default:
-        put_entry(at, EDGE(0, FIRST_KEPT_ROW, FIRST_LOCK_ROW - 1, FIRST_LOCK_ROW, OTP_ROWS, 0xffff), below(2), 1);
+        put_entry(at, row, kind, 1);
         return length;
     }
 }
