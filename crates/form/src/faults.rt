@@ -89,7 +89,7 @@ fn head_fault(job: &[u8], version: u32) -> Fault
 }
 
 // The fault of an entry's form.
-fn form_fault(i: u32, entry: Entry) -> Fault
+pub fn form_fault(i: u32, entry: Entry) -> Fault
     ensures { λ r. ⌜ r ≡ spec.formFault i entry ⌝ }
 {
     if 1 < entry.kind {
@@ -161,7 +161,7 @@ fn locking_fault(i: u32, least: u32, entry: Entry) -> Fault
 }
 
 // The fault of an entry's row by a version's rule.
-fn row_fault(version: u32, i: u32, least: u32, entry: Entry) -> Fault
+pub fn row_fault(version: u32, i: u32, least: u32, entry: Entry) -> Fault
     ensures { λ r. ⌜ r ≡ spec.rowFault version i least entry ⌝ }
 {
     if version == 2 {

@@ -1,0 +1,4 @@
+pub mod Notes
+pub mod Early
+pub mod Taking
+pub mod Ending
