@@ -3,8 +3,8 @@
  *
  * On an image of a blank chip it keeps a screen's width in a row, shows how much of the page is burnt, reads the width with a worn bit and
  * with a worn flag, and locks its page. On a second blank chip it burns the bootloader's lock, so that a USB loader reads the width and
- * cannot write it. On a third it rehearses a job up to a power cut, and then runs it. It prints what happens, and exits 1 where that is not
- * what document 01 and its requests say.
+ * cannot write it. On a third it rehearses a job up to a power cut, and then runs it. On a fourth the same job comes over a serial lead, a few
+ * bytes at a time. It prints what happens, and exits 1 where that is not what document 01 and its requests say.
  *
  *     rt staticlib otp
  *     cc -std=c11 -Iinclude examples/desk.c target/staticlib/libotp.a -o target/desk
@@ -190,10 +190,43 @@ static void run_a_job(void)
     show_burnt(whole.state, PAGE, 4);
 }
 
+/* Where the job is kept while it comes. What it held before does not matter. */
+static uint8_t area[OTP_AREA_BYTES];
+
+/* One chunk. Its early word is 0, or the number that the end will be refused with: then the sender may as well stop. */
+static otp_note take(otp_note note, const uint8_t *chunk, uint64_t bytes, uint32_t word)
+{
+    otp_taken taken = otp_take_chunk(area, sizeof area, note, chunk, bytes);
+    printf("%u bytes taken: number %u, early word %u\n", (unsigned)taken.note.counted, (unsigned)taken.answer.number,
+           (unsigned)taken.answer.value);
+    expect("the number of the chunk", taken.answer.number, OTP_DONE);
+    expect("the early word", taken.answer.value, word);
+    return taken.note;
+}
+
+/* The job comes in two chunks, and nothing is burnt before its end is announced. Sent again with a kind that there is not, its end is refused. */
+static void take_a_job(void)
+{
+    otp_state state = blank_chip();
+    otp_note fresh = OTP_START;
+    otp_note note = take(take(fresh, job, 9, 0), job + 9, sizeof job - 9, 0);
+    expect("the row before the end", rows[ROW], 0);
+    otp_outcome end = otp_end_job(rows, OTP_ROWS, state, area, sizeof area, note);
+    job_came_to("the end announced", end.answer, 1, 4, 0x230001);
+    uint8_t spoilt[sizeof job];
+    memcpy(spoilt, job, sizeof job);
+    spoilt[9] = 7;
+    note = take(fresh, spoilt, sizeof spoilt, OTP_REFUSED_JOB);
+    end = otp_end_job(rows, OTP_ROWS, end.state, area, sizeof area, note);
+    printf("its end announced: refused with number %u\n", (unsigned)end.answer.number);
+    expect("the number of the spoilt job", end.answer.number, OTP_REFUSED_JOB);
+}
+
 int main(void)
 {
     keep_a_width();
     lock_for_the_bootloader();
     run_a_job();
+    take_a_job();
     return wrong == 0 ? 0 : 1;
 }

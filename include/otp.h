@@ -27,18 +27,23 @@
  *           never do what Secure may not: its read needs its own level, Secure's and that of the keys to be at most OTP_READ_ONLY, and
  *           its write needs all three to be OTP_READ_WRITE.
  *
+ * area      The bytes of a job that comes in chunks, lent to each call on it: at least OTP_AREA_BYTES, the longest job. What it holds
+ *           before the first chunk does not matter; from then on only otp_take_chunk writes it.
+ * note      What has come of such a job, by value. Begin with one of all zeros, `otp_note note = OTP_START;`, and keep the one that each
+ *           chunk gives back. Any contents are allowed: what part and least say is believed for the early word alone.
+ *
  * A number that is too large is refused, and so is a length that is wrong. What no call can see is left to the caller: a pointer is
- * never NULL, also where the length is 0, it points to as many elements as the length says, and the rows and the bytes of a job or a
- * key do not overlap.
+ * never NULL, also where the length is 0, it points to as many elements as the length says, and the rows, the area and the bytes of a
+ * chunk, a job or a key do not overlap.
  *
  *
  * The numbers that come out
  *
- * Each answer has a number: OTP_DONE, or one of the refusals 1 to 11 that are listed below.
+ * Each answer has a number: OTP_DONE, or one of the refusals 1 to 12 that are listed below.
  * Where several apply, the first in this order is given: 1, 4, 2, 5, 6, 7, 3, 8, 9. A job has its own order, given at otp_run_job.
  *
- * Any number but 0 is a refusal, and a refusal changes nothing: every row and the state are as they were. Its value, condition, bit,
- * polarity, disagree and pulses are 0, and so is its place, but for a job's 7, 3 and 9.
+ * Any number but 0 is a refusal, and a refusal changes nothing: every row, the state, the area and the note are as they were. Its value,
+ * condition, bit, polarity, disagree and pulses are 0, and so is its place, but for a job's 7, 3 and 9.
  *
  *
  * How much of a page is burnt
@@ -58,7 +63,7 @@
 #include <stddef.h>
 #include <stdint.h>
 
-/* What C and C++ say in different words. OTP_START is the initialiser of a state of all zeros. */
+/* What C and C++ say in different words. OTP_START is the initialiser of a state or a note of all zeros. */
 #ifdef __cplusplus
 #define OTP_ASSERT(what, why) static_assert(what, why)
 #define OTP_ALIGNAS(bytes) alignas(bytes)
@@ -77,7 +82,8 @@ enum {
     OTP_PAGES = 64,       /* its pages, each with a lock */
     OTP_PAGE_ROWS = 64,   /* the rows of a page */
     OTP_PAGE_BITS = 1536, /* the bits of a page, 24 in each row */
-    OTP_KEY_BYTES = 16    /* the bytes of a key */
+    OTP_KEY_BYTES = 16,   /* the bytes of a key */
+    OTP_AREA_BYTES = 3079 /* the bytes of the longest job, and the least that an area may have */
 };
 
 /* Callers, and the domains of a lock: each caller has one. */
@@ -111,13 +117,14 @@ enum {
     OTP_REFUSED_CODE = 8,     /* ECC read: no value has a code within one bit */
     OTP_REFUSED_FIT = 9,      /* ECC write: neither polarity fits over the bits already set */
     OTP_REFUSED_JOB = 10,     /* the job's bytes are malformed */
-    OTP_REFUSED_ORDER = 11    /* a job's row is out of place, by the rule of its version */
+    OTP_REFUSED_ORDER = 11,   /* a job's row is out of place, by the rule of its version */
+    OTP_REFUSED_ROOM = 12     /* the lent area is shorter than 3,079 bytes */
 };
 
 /* What every call answers. A field that a call has no use for is 0. */
 typedef struct {
     uint32_t number;    /* OTP_DONE, any other is a refusal */
-    uint32_t value;     /* what a read or a vote found, or the level that a show shows */
+    uint32_t value;     /* what a read or a vote found, the level that a show shows, or the early word of a chunk */
     uint32_t condition; /* of an ECC read: OTP_CLEAN, OTP_REPAIRED, OTP_FLAG_WORN or OTP_FLAG_WORN_REPAIRED */
     uint32_t bit;       /* the repaired bit, 0 to 21, as it is numbered in the row; 0 where none is repaired */
     uint32_t polarity;  /* of an ECC read: OTP_PLAIN or OTP_INVERTED, as the row was read */
@@ -155,6 +162,19 @@ typedef struct {
     otp_answer answer;
     otp_state state;
 } otp_outcome;
+
+/* What has come of a job that comes in chunks, kept between them. */
+typedef struct {
+    uint32_t counted; /* the bytes taken so far, 3,080 for any more; any more than that counts as 3,080 */
+    uint32_t least;   /* the lowest row that may come next: one above the row of the last whole entry, 0 before the first */
+    uint8_t part[8];  /* the bytes of the one entry begun, in order, at most five, and zeros behind */
+} otp_note;
+
+/* What a chunk is answered: the answer, and the note to go on with. */
+typedef struct {
+    otp_answer answer;
+    otp_note note;
+} otp_taken;
 
 /* The layout that libotp.a goes by: each field begins where the one before it ends, and the last ends the struct. A compiler that lays
    a struct out otherwise stops here. */
@@ -195,6 +215,15 @@ OTP_ASSERT(OTP_ALIGNOF(otp_state) == 4, "otp_state is not aligned to words");
 OTP_FIRST(otp_outcome, answer);
 OTP_NEXT(otp_outcome, answer, state);
 OTP_LAST(otp_outcome, state);
+
+OTP_FIRST(otp_note, counted);
+OTP_NEXT(otp_note, counted, least);
+OTP_NEXT(otp_note, least, part);
+OTP_LAST(otp_note, part);
+
+OTP_FIRST(otp_taken, answer);
+OTP_NEXT(otp_taken, answer, note);
+OTP_LAST(otp_taken, note);
 
 #undef OTP_LAST
 #undef OTP_NEXT
@@ -252,6 +281,19 @@ otp_outcome otp_run_job(uint32_t *rows, uint64_t rows_len, otp_state state, cons
 /* Rehearses a job: judged and burnt like otp_run_job, it stops after `limit` pulses, as if the power went there, and answers 0. Bits
    of a row are burnt upward. It burns the rows that it is lent: lend it a copy to keep them. Numbers as of otp_run_job. */
 otp_outcome otp_rehearse(uint32_t *rows, uint64_t rows_len, otp_state state, const uint8_t *job, uint64_t job_len, uint32_t limit);
+
+/* Takes a chunk of a job, of any length, 0 too, and keeps its bytes in the area: those of a job come in order, in as many chunks as it
+   takes. Nothing is burnt. The value is the early word, so that the sender can stop: OTP_REFUSED_JOB or OTP_REFUSED_ORDER for the first fault
+   among what this chunk brought to its end, in the order of the bytes: a wrong byte of the mark, an unknown version, a count above 512, each
+   whole entry by its form and then by its row, a byte past the last entry. It is 0 where there is none, whatever was said before. Once some
+   chunk has said 10, the end on whole rows is refused with 10 whatever else comes, and once one has said 11, with 10 or 11. What stands past
+   the first 3,079 bytes of the area is left as it is, and so is every byte of it that the chunk does not bring. Numbers 0, 12. */
+otp_taken   otp_take_chunk(uint8_t *area, uint64_t area_len, otp_note note, const uint8_t *chunk, uint64_t chunk_len);
+
+/* Announces the end: runs the first `note.counted` bytes of the area as otp_run_job runs a job. Through any chunks, from a note of all
+   zeros, it answers and burns what otp_run_job does for the whole. The area and the note are left, and the same end may be announced
+   again: it is the same job again. Numbers 0, 1, 12, 10 for a count past 3,079, and then those of otp_run_job. */
+otp_outcome otp_end_job(uint32_t *rows, uint64_t rows_len, otp_state state, const uint8_t *area, uint64_t area_len, otp_note note);
 
 #ifdef __cplusplus
 }

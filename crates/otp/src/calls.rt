@@ -1,4 +1,4 @@
-// The eleven calls that libotp.a exports. Each is the call of the crate below, and what C takes of its answer.
+// The calls that libotp.a exports. Each is the call of the crate below, and what C takes of its answer.
 // Each contract cites the definition of that call, so all that is proved of the call holds here too.
 ghost use mathlib.Core.Path.{_≡_};
 ghost use Rattle.lock.specs.Calls as latch;
@@ -7,11 +7,15 @@ ghost use Rattle.access.specs.Reads as reads;
 ghost use Rattle.access.specs.Votes as votes;
 ghost use Rattle.burn.specs.Writes as writes;
 ghost use Rattle.job.specs.Jobs as jobs;
-ghost use Rattle.otp.specs.Flat.{flatAnswer, flatOutcome};
+ghost use Rattle.lead.specs.Ending as ending;
+ghost use Rattle.lead.specs.Taking as taking;
+ghost use Rattle.otp.specs.Flat.{flatAnswer, flatOutcome, flatTaken};
 use crate::flat::FlatAnswer;
 use crate::flat::FlatOutcome;
+use crate::flat::FlatTaken;
 use crate::flat::flat_answer;
 use crate::flat::flat_outcome;
+use crate::flat::flat_taken;
 use access::reads::read_ecc;
 use access::reads::read_raw;
 use access::votes::read_vote;
@@ -21,6 +25,9 @@ use chip::state::State;
 use job::jobs::MOST_PULSES;
 use job::jobs::rehearse;
 use latch::resetting::reset;
+use lead::ending::end_job;
+use lead::notes::Note;
+use lead::taking::take_chunk;
 use lock::calls::advance;
 use lock::calls::enter_key;
 use lock::calls::show;
@@ -153,4 +160,31 @@ pub extern "C" fn otp_rehearse(
         ⌝ }
 {
     flat_outcome(rehearse(rows, state, job, limit))
+}
+
+// Takes a chunk of a job into a lent area, and says early what is wrong with it.
+#[no_mangle]
+pub extern "C" fn otp_take_chunk(area: &mut [u8], note: Note, chunk: &[u8]) -> FlatTaken
+    ensures { λ r. ⌜
+        (r ≡ flatTaken (taking.takeChunk (now (area .entry)) note (now (chunk .entry)) .taken))
+        × (now (area .exit) ≡ taking.takeChunk (now (area .entry)) note (now (chunk .entry)) .area)
+        ⌝ }
+{
+    flat_taken(take_chunk(area, note, chunk))
+}
+
+// Judges the job that a lent area keeps and burns it.
+#[no_mangle]
+pub extern "C" fn otp_end_job(
+    rows: &mut [u32],
+    state: State,
+    area: &[u8],
+    note: Note,
+) -> FlatOutcome
+    ensures { λ r. ⌜
+        (r ≡ flatOutcome (ending.endJob (now (rows .entry)) state (now (area .entry)) note .outcome))
+        × (now (rows .exit) ≡ ending.endJob (now (rows .entry)) state (now (area .entry)) note .rows)
+        ⌝ }
+{
+    flat_outcome(end_job(rows, state, area, note))
 }

@@ -8,6 +8,8 @@ use answer::conditions::polarity_number;
 use answer::conditions::repaired_bit;
 use chip::state::Outcome;
 use chip::state::State;
+use lead::notes::Note;
+use lead::taking::Taken;
 
 // `otp_answer` of the header.
 #[repr(C)]
@@ -39,6 +41,15 @@ pub struct FlatOutcome {
     pub state: State,
 }
 
+// `otp_taken` of the header.
+#[repr(C)]
+pub struct FlatTaken {
+    // what the chunk is answered: its value is the early word
+    pub answer: FlatAnswer,
+    // the note after the chunk
+    pub note: Note,
+}
+
 // An answer as C takes it.
 pub fn flat_answer(answer: Answer) -> FlatAnswer
     ensures { λ r. ⌜ r ≡ spec.flatAnswer answer ⌝ }
@@ -66,5 +77,17 @@ pub fn flat_outcome(outcome: Outcome) -> FlatOutcome
     FlatOutcome {
         answer: flat_answer(answer),
         state,
+    }
+}
+
+// What a chunk is answered, as C takes it.
+pub fn flat_taken(taken: Taken) -> FlatTaken
+    ensures { λ r. ⌜ r ≡ spec.flatTaken taken ⌝ }
+{
+    let answer = taken.answer;
+    let note = taken.note;
+    FlatTaken {
+        answer: flat_answer(answer),
+        note,
     }
 }
