@@ -10,6 +10,7 @@ use borrow.Author.Tests.{eq-eqb, eqb-true, eqb-false, leb-false}
 use lib.Dec.{eqb, ltb, leb}
 use lib.ListN.{length, set}
 use lib.Seq.{set-getD}
+use Rattle.answer.proofs.Ladders.{never-zero}
 use Rattle.row.specs.Upward.{burntUpward}
 use Rattle.row.specs.Writing.{pulses, eccWritten, rawWritten}
 use Rattle.row.specs.declared.writing.Written.{Written}
@@ -32,6 +33,9 @@ use Rattle.job.specs.Jobs.{runJob, rehearse}
 use Rattle.judge.specs.Verdicts.{verdictOf}
 use Rattle.form.proofs.Faulty.{order-sound}
 use Rattle.job.proofs.Whole.{accepted, whole-job}
+use Rattle.lead.specs.Ending.{jobIn, endJob}
+use Rattle.lead.specs.declared.notes.Note.{Note}
+use Rattle.lead.proofs.Ends.{kept-or-run}
 use Rattle.laws.specs.Writes.{In}
 use Rattle.cuts.proofs.Acceptance.{carried, carried-number}
 use Rattle.laws.proofs.CallWrites.{allowed-by, left-rows}
@@ -147,6 +151,14 @@ module _ (rows : List ℕ) (state : State) where
   job-counts job =
       subst (λ (l : Left). l .outcome .answer .number ≡ 0 → CountsTo rows state l (rehearsed rows 12288 (entriesOf job) .gained))
       (whole-job rows state job) (rehearsal-counts job 12288)
+
+  -- and the end of one that came in chunks is that job, or a refusal
+  pub end-counts : (area : List ℕ) (note : Note) → endJob rows state area note .outcome .answer .number ≡ 0
+      → CountsTo rows state (endJob rows state area note) (rehearsed rows 12288 (entriesOf (jobIn area note)) .gained)
+  end-counts area note =
+      kept-or-run rows state area note
+      (λ (l : Left). l .outcome .answer .number ≡ 0 → CountsTo rows state l (rehearsed rows 12288 (entriesOf (jobIn area note)) .gained))
+      (λ n none. absurd (never-zero n none)) (job-counts (jobIn area note))
 
   row-counts : (row number : ℕ) (written : Written) → number ≡ 0 → length rows ≡ 4096 → row < length rows → In (rowAt rows row) (written .row)
       → written .pulses ≡ pulses (rowAt rows row) (written .row)

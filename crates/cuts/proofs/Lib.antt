@@ -10,6 +10,7 @@ pub mod Locked
 pub mod Versions
 pub mod RehearsalCut
 pub mod Pulses
+pub mod Ends
 pub mod Places
 pub mod Standing
 pub mod Turns

@@ -10,10 +10,12 @@ use Rattle.chip.specs.Pages.{pageOf}
 use Rattle.chip.specs.Tallies.{tallyAt, Gain, withGains}
 use Rattle.form.specs.Entries.{countOf, entryAt, entriesOf}
 use Rattle.job.specs.Burning.{rehearsed}
-use Rattle.laws.specs.Calls.{Chip, Call, aRawWrite, anEccWrite, aJob, aRehearsal, perform}
+use Rattle.lead.specs.Ending.{jobIn}
+use Rattle.lead.specs.declared.notes.Note.{Note}
+use Rattle.laws.specs.Calls.{Chip, Call, aRawWrite, anEccWrite, aJob, aRehearsal, anEnd, perform}
 use Rattle.laws.specs.Promises.{Burns}
 use Rattle.cuts.specs.Tallies.{Names, newInPage, tallyBefore, TalliesExactly}
-use Rattle.cuts.proofs.Counted.{raw-counts, ecc-counts, rehearsal-counts, job-counts, entries-rows, among-at, at-among}
+use Rattle.cuts.proofs.Counted.{raw-counts, ecc-counts, rehearsal-counts, job-counts, end-counts, entries-rows, among-at, at-among}
 use Rattle.cuts.proofs.Gains.{Gained, rowsOf, Among, page-left}
 
 -- what it counts, and that this is of the pages that it names
@@ -40,6 +42,9 @@ job-named (Names.job {i = i} below) = (i, below, refl)
 
 rehearsal-named : {job : List ℕ} {limit page : ℕ} → Names (aRehearsal job limit) page → EntryOf job page
 rehearsal-named (Names.rehearsal {i = i} below) = (i, below, refl)
+
+ended-named : {area : List ℕ} {note : Note} {page : ℕ} → Names (anEnd area note) page → EntryOf (jobIn area note) page
+ended-named (Names.ended {i = i} below) = (i, below, refl)
 
 module _ (rows : List ℕ) (limit : ℕ) (job : List ℕ) (page : ℕ) where
   abbrev gainedRows : List ℕ
@@ -107,6 +112,18 @@ call-counts chip _ (Burns.rehearsal {bytes} {limit}) done =
       only = λ page among.
           let found = among-entry (chip .rows) limit bytes page among in
           subst (Names (aRehearsal bytes limit)) (found .2) (Names.rehearsal (found .1));
+    }
+call-counts chip _ (Burns.ended {area} {note}) done =
+    let c = end-counts (chip .rows) (chip .state) area note done in
+    record {
+      gained = rehearsed (chip .rows) 12288 (entriesOf (jobIn area note)) .gained;
+      long = c .long;
+      tallies = c .tallies;
+      burnt = c .burnt;
+      named = λ page names. entry-among (chip .rows) 12288 (jobIn area note) page (ended-named names);
+      only = λ page among.
+          let found = among-entry (chip .rows) 12288 (jobIn area note) page among in
+          subst (Names (anEnd area note)) (found .2) (Names.ended (found .1));
     }
 
 pub talliesExactly : TalliesExactly

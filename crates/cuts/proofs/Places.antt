@@ -29,8 +29,10 @@ use Rattle.judge.specs.Verdicts.{unfit, entryRungs, allRungs, verdict, verdictO
 use Rattle.judge.specs.declared.verdicts.Verdict.{Verdict}
 use Rattle.judge.proofs.Upward.{entry-stops, entry-next}
 use Rattle.job.proofs.Whole.{finished}
-use Rattle.laws.specs.Calls.{perform}
+use Rattle.laws.specs.Calls.{Chip, Result, aJob, perform}
+use Rattle.lead.specs.Ending.{jobIn}
 use Rattle.cuts.specs.Jobs.{RunsJob, NamesEntry, PlaceRefused, OneBitNeverNineInJobs}
+use Rattle.cuts.proofs.Ends.{as-job}
 use Rattle.laws.proofs.Writes.{oneBitFits}
 
 module _ (rows : List ℕ) (state : State) where
@@ -134,16 +136,23 @@ refused-answer judged rows state done some = go (eqb (judged .number) 0) refl
     go true none = absurd (some (rw none refl))
     go false other = rw other (refl, refl, eqb-false (judged .number) 0 other)
 
-pub placeRefused : PlaceRefused
-unfolding perform runJob rehearse
-placeRefused chip job _ RunsJob.run some =
+job-refused : (chip : Chip) (job : List ℕ) → (perform chip (aJob job) .answer .number ≡ 0 → ⊥) → NamesEntry chip job (perform chip (aJob job) .answer)
+unfolding perform runJob
+job-refused chip job some =
     let answer =
     refused-answer (verdictOf (chip .rows) (chip .state) job) (chip .rows) (chip .state) (finished (chip .rows) (entriesOf job) (countOf job)) some in
     rw (answer .0, answer .1) (verdict-named (chip .rows) (chip .state) job (answer .2))
-placeRefused chip job _ (RunsJob.rehearsal {limit}) some =
+
+pub placeRefused : PlaceRefused
+unfolding perform rehearse
+placeRefused chip job _ RunsJob.run some = job-refused chip job some
+placeRefused chip job _ (RunsJob.rehearsal {limit = limit}) some =
     let answer =
     refused-answer (verdictOf (chip .rows) (chip .state) job) (chip .rows) (chip .state) (rehearsed (chip .rows) limit (entriesOf job)) some in
     rw (answer .0, answer .1) (verdict-named (chip .rows) (chip .state) job (answer .2))
+placeRefused chip _ _ (RunsJob.ended {area} {note} room within) some =
+    subst (λ (r : Result). (r .answer .number ≡ 0 → ⊥) → NamesEntry chip (jobIn area note) (r .answer)) (as-job chip area note room within)
+    (job-refused chip (jobIn area note)) some
 
 -- ---- 9 of an entry
 

@@ -6,6 +6,7 @@ use Prim.Native.Nat.{ℕ, _<_}
 use borrow.Author.Tests.{eq-eqb}
 use lib.Dec.{ltb}
 use lib.ListN.{length}
+use Rattle.answer.proofs.Ladders.{never-zero}
 use Rattle.row.specs.Writing.{pulses, eccWritten, rawWritten}
 use Rattle.row.specs.declared.writing.Written.{Written}
 use Rattle.permit.specs.Permission.{mayWrite}
@@ -22,6 +23,9 @@ use Rattle.judge.specs.Verdicts.{verdictOf}
 use Rattle.form.specs.Faults.{ruleOf}
 use Rattle.form.proofs.Faulty.{order-sound}
 use Rattle.job.proofs.Whole.{accepted, whole-job}
+use Rattle.lead.specs.Ending.{jobIn, endJob}
+use Rattle.lead.specs.declared.notes.Note.{Note}
+use Rattle.lead.proofs.Ends.{kept-or-run}
 use Rattle.laws.specs.Calls.{perform}
 use Rattle.laws.specs.Writes.{newlySet}
 use Rattle.laws.specs.Promises.{Burns}
@@ -58,6 +62,12 @@ module _ (rows : List ℕ) (state : State) where
   job-counted job =
       subst (λ (l : Left). l .outcome .answer .number ≡ 0 → Counted rows l) (whole-job rows state job) (rehearsal-counted job 12288)
 
+  -- and the end of one that came in chunks is that job, or a refusal
+  end-counted : (area : List ℕ) (note : Note) → endJob rows state area note .outcome .answer .number ≡ 0 → Counted rows (endJob rows state area note)
+  end-counted area note =
+      kept-or-run rows state area note (λ (l : Left). l .outcome .answer .number ≡ 0 → Counted rows l) (λ n none. absurd (never-zero n none))
+      (job-counted (jobIn area note))
+
   raw-counted : (caller row value : ℕ) → writeRaw rows state caller row value .outcome .answer .number ≡ 0
       → Counted rows (writeRaw rows state caller row value)
   unfolding writeRaw
@@ -79,3 +89,4 @@ pulsesAreNewBits chip _ (Burns.rawWrite {caller} {row} {value}) done = raw-count
 pulsesAreNewBits chip _ (Burns.eccWrite {caller} {row} {value}) done = ecc-counted (chip .rows) (chip .state) caller row value done
 pulsesAreNewBits chip _ (Burns.job {bytes}) done = job-counted (chip .rows) (chip .state) bytes done
 pulsesAreNewBits chip _ (Burns.rehearsal {bytes} {limit}) done = rehearsal-counted (chip .rows) (chip .state) bytes limit done
+pulsesAreNewBits chip _ (Burns.ended {area} {note}) done = end-counted (chip .rows) (chip .state) area note done

@@ -26,8 +26,10 @@ use Rattle.job.specs.Jobs.{runJob, rehearse}
 use Rattle.judge.specs.Verdicts.{entryWritten, verdictOf}
 use Rattle.form.proofs.Faulty.{order-sound}
 use Rattle.job.proofs.Whole.{accepted, whole-job}
-use Rattle.laws.specs.Calls.{perform}
+use Rattle.laws.specs.Calls.{Result, perform}
+use Rattle.lead.specs.Ending.{jobIn}
 use Rattle.cuts.specs.Jobs.{RunsJob, Stands, PlaceStands}
+use Rattle.cuts.proofs.Ends.{as-job}
 use Rattle.laws.specs.Writes.{In}
 use Rattle.cuts.proofs.Acceptance.{carried, carried-number}
 use Rattle.laws.proofs.Between.{in-both}
@@ -157,4 +159,12 @@ module _ (rows : List ℕ) (state : State) (job : List ℕ) where
 pub placeStands : PlaceStands
 unfolding perform
 placeStands chip job _ RunsJob.run done = job-placed (chip .rows) (chip .state) job done
-placeStands chip job _ (RunsJob.rehearsal {limit}) done = rehearsal-placed (chip .rows) (chip .state) job limit done
+placeStands chip job _ (RunsJob.rehearsal {limit = limit}) done = rehearsal-placed (chip .rows) (chip .state) job limit done
+placeStands chip _ _ (RunsJob.ended {area} {note} room within) done =
+    subst
+    (λ (r : Result).
+    r .answer .number ≡ 0
+    → (r .answer .place ≤ countOf (jobIn area note))
+    × ((i : ℕ) → i < r .answer .place → Stands (chip .rows) (r .chip .rows) (entryAt (jobIn area note) i))
+    × (r .answer .place < countOf (jobIn area note) → Stands (chip .rows) (r .chip .rows) (entryAt (jobIn area note) (r .answer .place)) → ⊥))
+    (as-job chip area note room within) (job-placed (chip .rows) (chip .state) (jobIn area note)) done

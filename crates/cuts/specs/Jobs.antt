@@ -1,5 +1,6 @@
 -- What is promised of a job and a rehearsal: their place, and that a job is the writes of its entries (document 01, "Jobs").
 use Prim.Native.Nat.{ℕ, _+_, _≤_, _<_}
+use mathlib.Core.Bool.{false}
 use mathlib.Core.List.{List, [], _∷_}
 use mathlib.Core.Logic.{_⊎_}
 use mathlib.Core.Path.{_≡_}
@@ -14,14 +15,18 @@ use Rattle.form.specs.Entries.{countOf, entryAt, entriesOf}
 use Rattle.form.specs.declared.entries.Entry.{Entry}
 use Rattle.job.specs.Burning.{writtenOver}
 use Rattle.judge.specs.Verdicts.{entryRungs}
-use Rattle.laws.specs.Calls.{Chip, Call, aRawWrite, anEccWrite, aJob, aRehearsal, perform}
+use Rattle.lead.specs.Ending.{jobIn}
+use Rattle.lead.specs.Notes.{noRoom}
+use Rattle.lead.specs.declared.notes.Note.{Note}
+use Rattle.laws.specs.Calls.{Chip, Call, aRawWrite, anEccWrite, aJob, aRehearsal, anEnd, perform}
 use Rattle.cuts.specs.Cuts.{Bytes}
 use Rattle.laws.specs.Writes.{In}
 
--- a job that is run, or rehearsed
-pub data RunsJob (job : List ℕ) : Call → Type 0 where
-  run : RunsJob job (aJob job)
-  rehearsal : {limit : ℕ} → RunsJob job (aRehearsal job limit)
+-- a job that is run, or rehearsed, or came in chunks and is run at their end
+pub data RunsJob : List ℕ → Call → Type 0 where
+  run : {job : List ℕ} → RunsJob job (aJob job)
+  rehearsal : {job : List ℕ} {limit : ℕ} → RunsJob job (aRehearsal job limit)
+  ended : {area : List ℕ} {note : Note} → noRoom area ≡ false → note .counted ≤ 3079 → RunsJob (jobIn area note) (anEnd area note)
 
 -- the number of an entry by itself: 7, 3, 9 or 0
 abbrev pub entryNumber : Chip → Entry → ℕ

@@ -9,7 +9,9 @@ use Rattle.chip.specs.declared.state.State.{State}
 use Rattle.latch.specs.Resetting.{resetNumber}
 use Rattle.form.specs.Entries.{versionOf, countOf, entryAt, entriesOf}
 use Rattle.job.specs.Jobs.{runJob, rehearse}
-use Rattle.laws.specs.Calls.{Chip, Call, aReset, aRawWrite, anEccWrite, aJob, aRehearsal, perform, performAll}
+use Rattle.lead.specs.Ending.{jobIn}
+use Rattle.lead.specs.declared.notes.Note.{Note}
+use Rattle.laws.specs.Calls.{Chip, Call, aReset, aRawWrite, anEccWrite, aJob, aRehearsal, anEnd, perform, performAll}
 use Rattle.cuts.specs.Cuts.{Keyed, ready, Bytes, acceptedOn, Cuts}
 use Rattle.laws.specs.Writes.{newlySet}
 use Rattle.laws.specs.Promises.{Burns}
@@ -42,6 +44,7 @@ pub data Names : Call → ℕ → Type 0 where
   eccWrite : {caller row value : ℕ} → Names (anEccWrite caller row value) (pageOf row)
   job : {bytes : List ℕ} {i : ℕ} → i < countOf bytes → Names (aJob bytes) (pageOf (entryAt bytes i .row))
   rehearsal : {bytes : List ℕ} {limit i : ℕ} → i < countOf bytes → Names (aRehearsal bytes limit) (pageOf (entryAt bytes i .row))
+  ended : {area : List ℕ} {note : Note} {i : ℕ} → i < countOf (jobIn area note) → Names (anEnd area note) (pageOf (entryAt (jobIn area note) i .row))
 
 -- the bits newly set in a page's rows
 abbrev pub newInPage : List ℕ → List ℕ → ℕ → ℕ

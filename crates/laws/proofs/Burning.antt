@@ -15,7 +15,10 @@ use Rattle.job.specs.Burning.{Progress, writtenOver, withEntry, rehearsed}
 use Rattle.job.specs.Jobs.{runJob, rehearse}
 use Rattle.judge.specs.Verdicts.{verdictOf}
 use Rattle.job.proofs.Whole.{whole-job}
-use Rattle.laws.specs.Calls.{Chip, Call, aReset, aRawRead, anEccRead, aVote, aRawWrite, anEccWrite, anAdvance, aShow, aKey, aJob, aRehearsal, perform, performAll}
+use Rattle.lead.specs.Ending.{jobIn, endJob}
+use Rattle.lead.specs.declared.notes.Note.{Note}
+use Rattle.lead.proofs.Ends.{kept-or-run}
+use Rattle.laws.specs.Calls.{Chip, Call, aReset, aRawRead, anEccRead, aVote, aRawWrite, anEccWrite, anAdvance, aShow, aKey, aJob, aRehearsal, anEnd, perform, performAll}
 use Rattle.laws.specs.Promises.{NoBitClears, Burns, BurningLatchesNothing}
 use Rattle.laws.specs.Votes.{EachIn}
 use Rattle.answer.proofs.Choices.{both-ways}
@@ -52,6 +55,10 @@ module _ (rows : List ℕ) (state : State) where
   job-burns : (job : List ℕ) → Burnt (runJob rows state job)
   job-burns job = subst Burnt (whole-job rows state job) (rehearsal-burns job 12288)
 
+  -- the end of one that came in chunks is that job, or a refusal
+  end-burns : (area : List ℕ) (note : Note) → Burnt (endJob rows state area note)
+  end-burns area note = kept-or-run rows state area note Burnt (λ number. (each-self rows, refl)) (job-burns (jobIn area note))
+
   raw-burns : (caller row value : ℕ) → Burnt (writeRaw rows state caller row value)
   unfolding writeRaw
   raw-burns caller row value =
@@ -77,6 +84,7 @@ call-in chip (aShow caller domain page) = each-self (chip .rows)
 call-in chip (aKey caller key) = each-self (chip .rows)
 call-in chip (aJob job) = job-burns (chip .rows) (chip .state) job .0
 call-in chip (aRehearsal job limit) = rehearsal-burns (chip .rows) (chip .state) job limit .0
+call-in chip (anEnd area note) = end-burns (chip .rows) (chip .state) area note .0
 
 calls-in : (chip : Chip) (calls : List Call) → EachIn (chip .rows) (performAll chip calls .rows)
 unfolding performAll
@@ -92,3 +100,4 @@ burningLatchesNothing chip _ (Burns.rawWrite {caller} {row} {value}) = raw-burns
 burningLatchesNothing chip _ (Burns.eccWrite {caller} {row} {value}) = ecc-burns (chip .rows) (chip .state) caller row value .1
 burningLatchesNothing chip _ (Burns.job {bytes}) = job-burns (chip .rows) (chip .state) bytes .1
 burningLatchesNothing chip _ (Burns.rehearsal {bytes} {limit}) = rehearsal-burns (chip .rows) (chip .state) bytes limit .1
+burningLatchesNothing chip _ (Burns.ended {area} {note}) = end-burns (chip .rows) (chip .state) area note .1

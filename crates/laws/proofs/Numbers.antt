@@ -24,7 +24,8 @@ use Rattle.access.specs.Votes.{readVote}
 use Rattle.burn.specs.Writes.{writeRaw, writeEcc}
 use Rattle.access.proofs.Answering.{read-done}
 use Rattle.job.specs.Jobs.{runJob, rehearse}
-use Rattle.laws.specs.Calls.{aReset, aRawRead, anEccRead, aVote, aRawWrite, anEccWrite, anAdvance, aShow, aKey, aJob, aRehearsal, perform}
+use Rattle.lead.specs.Ending.{endJob}
+use Rattle.laws.specs.Calls.{aReset, aRawRead, anEccRead, aVote, aRawWrite, anEccWrite, anAdvance, aShow, aKey, aJob, aRehearsal, anEnd, perform}
 use Rattle.laws.specs.Numbers.{numberOf, GivenExactly}
 
 abbrev ofAnswer : Answer → ℕ
@@ -50,7 +51,7 @@ ecc-number rows state caller row = go (eqb (readEccNumber rows state caller row)
     go false e = rw e
 
 pub givenExactly : GivenExactly
-unfolding perform numberOf reset readRaw readEcc readVote writeRaw writeEcc advance showLock enterKey runJob rehearse
+unfolding perform numberOf reset readRaw readEcc readVote writeRaw writeEcc advance showLock enterKey runJob rehearse endJob
 givenExactly chip aReset = own-number ofOutcome _ _ _ refl refl
 givenExactly chip (aRawRead caller row) = own-number ofAnswer _ _ _ refl refl
 givenExactly chip (anEccRead caller row) = ecc-number (chip .rows) (chip .state) caller row
@@ -62,3 +63,4 @@ givenExactly chip (aShow caller domain page) = own-number ofAnswer _ _ _ refl re
 givenExactly chip (aKey caller key) = own-number ofOutcome _ _ _ refl refl
 givenExactly chip (aJob job) = own-number ofLeft _ _ _ refl refl
 givenExactly chip (aRehearsal job limit) = own-number ofLeft _ _ _ refl refl
+givenExactly chip (anEnd area note) = own-number ofLeft _ _ _ refl refl

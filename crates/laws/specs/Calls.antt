@@ -12,13 +12,15 @@ use Rattle.access.specs.Votes.{readVote}
 use Rattle.burn.specs.Burning.{Left}
 use Rattle.burn.specs.Writes.{writeRaw, writeEcc}
 use Rattle.job.specs.Jobs.{runJob, rehearse}
+use Rattle.lead.specs.Ending.{endJob}
+use Rattle.lead.specs.declared.notes.Note.{Note}
 
 -- a chip: its row slice, of any length, and its latched state
 pub record Chip : Type 0 where
   pub rows : List ℕ
   pub state : State
 
--- the eleven calls, with whatever comes in
+-- every call on a chip, with whatever comes in
 pub data Call : Type 0 where
   aReset : Call
   aRawRead anEccRead : (caller row : ℕ) → Call
@@ -29,6 +31,7 @@ pub data Call : Type 0 where
   aKey : (caller : ℕ) (key : List ℕ) → Call
   aJob : (job : List ℕ) → Call
   aRehearsal : (job : List ℕ) (limit : ℕ) → Call
+  anEnd : (area : List ℕ) (note : Note) → Call
 
 -- what a call answers, and the chip that it leaves
 pub record Result : Type 0 where
@@ -60,6 +63,7 @@ perform chip (aShow caller domain page) = only chip (showLock (chip .state) call
 perform chip (aKey caller key) = stated chip (enterKey (chip .state) caller key)
 perform chip (aJob job) = leaving (runJob (chip .rows) (chip .state) job)
 perform chip (aRehearsal job limit) = leaving (rehearse (chip .rows) (chip .state) job limit)
+perform chip (anEnd area note) = leaving (endJob (chip .rows) (chip .state) area note)
 
 -- calls performed one after the other
 unfoldable pub performAll : Chip → List Call → Chip

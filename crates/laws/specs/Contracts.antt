@@ -7,7 +7,8 @@ use Rattle.access.specs.Reads.{readRaw, readEcc}
 use Rattle.access.specs.Votes.{readVote}
 use Rattle.burn.specs.Writes.{writeRaw, writeEcc}
 use Rattle.job.specs.Jobs.{runJob, rehearse}
-use Rattle.laws.specs.Calls.{Chip, Call, Result, aReset, aRawRead, anEccRead, aVote, aRawWrite, anEccWrite, anAdvance, aShow, aKey, aJob, aRehearsal, perform}
+use Rattle.lead.specs.Ending.{endJob}
+use Rattle.laws.specs.Calls.{Chip, Call, Result, aReset, aRawRead, anEccRead, aVote, aRawWrite, anEccWrite, anAdvance, aShow, aKey, aJob, aRehearsal, anEnd, perform}
 
 -- the outcome that a call hands back: its answer, and the state
 abbrev pub outcomeOf : Result → Outcome
@@ -34,6 +35,8 @@ Allows chip (aJob job) r =
 Allows chip (aRehearsal job limit) r =
     (outcomeOf r ≡ rehearse (chip .rows) (chip .state) job limit .outcome)
     × (r .chip .rows ≡ rehearse (chip .rows) (chip .state) job limit .rows)
+Allows chip (anEnd area note) r =
+    (outcomeOf r ≡ endJob (chip .rows) (chip .state) area note .outcome) × (r .chip .rows ≡ endJob (chip .rows) (chip .state) area note .rows)
 
 -- any two results that the contract of a call allows are equal
 abbrev pub NoRoom : Type 0

@@ -7,7 +7,8 @@ use Rattle.access.specs.Reads.{readRawNumber, readEccNumber}
 use Rattle.access.specs.Votes.{readVoteNumber}
 use Rattle.burn.specs.Writes.{writeRawNumber, writeEccNumber}
 use Rattle.judge.specs.Verdicts.{verdictOf}
-use Rattle.laws.specs.Calls.{Chip, Call, aReset, aRawRead, anEccRead, aVote, aRawWrite, anEccWrite, anAdvance, aShow, aKey, aJob, aRehearsal, perform}
+use Rattle.lead.specs.Ending.{endVerdict}
+use Rattle.laws.specs.Calls.{Chip, Call, aReset, aRawRead, anEccRead, aVote, aRawWrite, anEccWrite, anAdvance, aShow, aKey, aJob, aRehearsal, anEnd, perform}
 
 -- the number of the first of a call's tests that holds, and 0 where none does
 unfoldable pub numberOf : Chip → Call → ℕ
@@ -22,6 +23,7 @@ numberOf chip (aShow caller domain page) = showNumber caller domain page
 numberOf chip (aKey caller key) = enterNumber caller key
 numberOf chip (aJob job) = verdictOf (chip .rows) (chip .state) job .number
 numberOf chip (aRehearsal job limit) = verdictOf (chip .rows) (chip .state) job .number
+numberOf chip (anEnd area note) = endVerdict (chip .rows) (chip .state) area note .number
 
 -- every call answers it
 abbrev pub GivenExactly : Type 0

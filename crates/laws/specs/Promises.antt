@@ -24,7 +24,8 @@ use Rattle.latch.specs.Resetting.{resetNumber, reset}
 use Rattle.access.specs.Reads.{readEccNumber, readEcc}
 use Rattle.access.specs.Judging.{ecc, callRungs}
 use Rattle.burn.specs.Writes.{writeRaw, writeEcc}
-use Rattle.laws.specs.Calls.{Chip, Call, aReset, aRawWrite, anEccWrite, aJob, aRehearsal, perform, performAll}
+use Rattle.lead.specs.declared.notes.Note.{Note}
+use Rattle.laws.specs.Calls.{Chip, Call, aReset, aRawWrite, anEccWrite, aJob, aRehearsal, anEnd, perform, performAll}
 use Rattle.laws.specs.Writes.{In, burntIn}
 
 -- every refusal returns value 0, condition clean, plain, and 0 pulses, and leaves each row and the state unchanged
@@ -119,12 +120,13 @@ AdvanceLeavesOthers =
     → (otherDomain otherPage : ℕ) → (otherDomain ≡ domain → otherPage ≡ page → ⊥)
     → shownLevel (advance state caller domain page level .state) otherDomain otherPage ≡ shownLevel state otherDomain otherPage
 
--- writes, jobs and rehearsals
+-- writes, jobs, rehearsals and the end of a job that came in chunks
 pub data Burns : Call → Type 0 where
   rawWrite : {caller row value : ℕ} → Burns (aRawWrite caller row value)
   eccWrite : {caller row value : ℕ} → Burns (anEccWrite caller row value)
   job : {bytes : List ℕ} → Burns (aJob bytes)
   rehearsal : {bytes : List ℕ} {limit : ℕ} → Burns (aRehearsal bytes limit)
+  ended : {area : List ℕ} {note : Note} → Burns (anEnd area note)
 
 -- burning a lock or key row, or any other, changes nothing latched: nothing of the state but the tallies
 abbrev pub BurningLatchesNothing : Type 0
