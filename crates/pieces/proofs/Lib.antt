@@ -1,0 +1,11 @@
+pub mod Agreeing
+pub mod Following
+pub mod Joined
+pub mod Whole
+pub mod InTurn
+pub mod Parts
+pub mod Truth
+pub mod Quiet
+pub mod Lazy
+pub mod Chunks
+pub mod Ends

@@ -1,0 +1,4 @@
+pub mod Pieces
+pub mod Words
+pub mod Chunks
+pub mod Ends
