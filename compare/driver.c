@@ -5,16 +5,18 @@
  * between requests, blank at the start, so that a request holds only the entries that are to differ. All numbers are 32 bits, low
  * byte first; structs are as they lie in memory.
  *
- *     request     call, rows_len, count of entries, count of bytes, four arguments, the state (636 bytes), the entries (place,
- *                 value), then the bytes of a key or a job
- *     reply       count of entries, the answer (32 bytes), the state if the call gives one back, then the entries (place, value)
- *                 that the call changed
+ *     request     call, rows_len, count of entries, counts of two lots of bytes, four arguments, the state (636 bytes), the entries
+ *                 (place, value), then the bytes: those of a key, a job or an area, and those of a chunk. The arguments of a call that
+ *                 takes a note are its 16 bytes
+ *     reply       count of entries, the answer (32 bytes), the state if the call gives one back, or the note (16 bytes) and the area's
+ *                 bytes, then the entries (place, value) that the call changed
  *
  * One request is for many calls, READ_EACH: a row is read with ECC once for each of many entries in it, which go up by one. Its
  * arguments are the caller, the row, the first entry and how many. Its reply has as many answers, and the row is left as it was.
  *
- * The whole image is looked at after each request, so a change to an entry that the call was not lent is told too. A request that is
- * none of these ends the program with one line and 1.
+ * The whole image is looked at after each request, so a change to an entry that the call was not lent is told too. A call that changes
+ * bytes which it was lent to read, or bytes behind those that it was lent, ends the program with one line and 1, and so does a request
+ * that is none of these.
  *
  *     rt staticlib otp
  *     cc -std=c11 -O2 -Iinclude compare/driver.c target/staticlib/libotp.a -o target/driver
@@ -25,10 +27,12 @@
 #include <stdlib.h>
 #include <string.h>
 
-enum { ENTRIES = 8192, MOST_BYTES = 65536, MOST_ANSWERS = 65536, PIPE = 1 << 16 };
+enum { ENTRIES = 8192, MOST_BYTES = 65536, BEHIND = 1024, MOST_ANSWERS = 65536, PIPE = 1 << 16 };
 
 /* The calls, in the order of the list in src/call.rs: tests/driver.rs holds the two to each other. */
-typedef enum { RESET, READ_RAW, READ_ECC, READ_VOTE, WRITE_RAW, WRITE_ECC, ADVANCE, SHOW, ENTER_KEY, RUN_JOB, REHEARSE } call;
+typedef enum {
+    RESET, READ_RAW, READ_ECC, READ_VOTE, WRITE_RAW, WRITE_ECC, ADVANCE, SHOW, ENTER_KEY, RUN_JOB, REHEARSE, TAKE_CHUNK, END_JOB
+} call;
 
 /* The same as in src/driver.rs, and no place in the list. */
 enum { READ_EACH = 0x10000 };
@@ -37,7 +41,7 @@ typedef struct {
     uint32_t call;
     uint32_t rows_len;
     uint32_t entries;
-    uint32_t bytes;
+    uint32_t bytes[2];
     uint32_t arguments[4];
     otp_state state;
 } request;
@@ -48,9 +52,11 @@ typedef struct {
 } entry;
 
 /* What goes through the pipe has no gaps. */
-_Static_assert(sizeof(request) == 32 + 636, "size of request");
+_Static_assert(sizeof(request) == 36 + 636, "size of request");
 _Static_assert(sizeof(entry) == 8, "size of entry");
 _Static_assert(sizeof(otp_answer) == 32, "size of otp_answer");
+_Static_assert(sizeof(otp_note) == 16 && offsetof(otp_note, part) == 8, "size of otp_note, and place of its part");
+_Static_assert(sizeof(otp_taken) == 32 + 16 && offsetof(otp_taken, note) == 32, "size of otp_taken, and place of its note");
 _Static_assert(sizeof(otp_state) == 636, "size of otp_state");
 _Static_assert(offsetof(otp_state, bootloader) == 128, "place of the bootloader's levels");
 _Static_assert(offsetof(otp_state, keys) == 384 && sizeof(otp_key) == 18, "place and size of the keys");
@@ -63,7 +69,13 @@ static uint32_t before[ENTRIES];
 
 static entry entries[ENTRIES];
 static otp_answer answers[MOST_ANSWERS];
-static uint8_t bytes[MOST_BYTES];
+
+/* A lot of bytes, and the same before the call. Some lie behind those that a call is lent: what the requests before it left there. */
+typedef struct {
+    uint8_t now[MOST_BYTES + BEHIND];
+    uint8_t before[MOST_BYTES + BEHIND];
+} lot;
+static lot lots[2];
 
 _Noreturn static void stop(const char *why)
 {
@@ -92,11 +104,14 @@ static bool next(request *asked)
         return false;
     }
     take((char *)asked + 1, sizeof *asked - 1, 1);
-    if (asked->rows_len > ENTRIES || asked->entries > ENTRIES || asked->bytes > MOST_BYTES) {
+    if (asked->rows_len > ENTRIES || asked->entries > ENTRIES || asked->bytes[0] > MOST_BYTES || asked->bytes[1] > MOST_BYTES) {
         stop("a request is too large");
     }
     take(entries, sizeof *entries, asked->entries);
-    take(bytes, 1, asked->bytes);
+    for (int i = 0; i < 2; i++) {
+        take(lots[i].now, 1, asked->bytes[i]);
+        memcpy(lots[i].before, lots[i].now, asked->bytes[i] + BEHIND);
+    }
     return true;
 }
 
@@ -131,58 +146,84 @@ static uint32_t changed(void)
     return count;
 }
 
-/* What comes back of a call that gives no state back, and of one that does: each says how much of it is to be told. */
-static size_t answer(otp_outcome *made, otp_answer back)
-{
-    made->answer = back;
-    return sizeof made->answer;
-}
+/* What comes back of a call: how much of it is to be told, and how many bytes of the area with it. */
+typedef struct {
+    union {
+        otp_answer answer;
+        otp_outcome outcome;
+        otp_taken taken;
+    } back;
+    size_t size;
+    size_t area;
+} made;
 
-static size_t outcome(otp_outcome *made, otp_outcome back)
+static made answer(otp_answer back) { return (made){.back.answer = back, .size = sizeof back}; }
+static made outcome(otp_outcome back) { return (made){.back.outcome = back, .size = sizeof back}; }
+static made taken(otp_taken back, size_t area) { return (made){.back.taken = back, .size = sizeof back, .area = area}; }
+
+/* The note that a request has for its arguments. */
+static otp_note noted(const request *r)
 {
-    *made = back;
-    return sizeof *made;
+    otp_note note;
+
+    memcpy(&note, r->arguments, sizeof note);
+    return note;
 }
 
 /* Makes the call. There is no default, so that the compiler names a call that is missing. */
-static size_t make(const request *r, otp_outcome *made)
+static made make(const request *r)
 {
     const uint32_t *a = r->arguments;
+    uint8_t *bytes = lots[0].now;
+    uint64_t length = r->bytes[0];
 
     switch ((call)r->call) {
     case RESET:
-        return outcome(made, otp_reset(image, r->rows_len, r->state));
+        return outcome(otp_reset(image, r->rows_len, r->state));
     case READ_RAW:
-        return answer(made, otp_read_raw(image, r->rows_len, r->state, a[0], a[1]));
+        return answer(otp_read_raw(image, r->rows_len, r->state, a[0], a[1]));
     case READ_ECC:
-        return answer(made, otp_read_ecc(image, r->rows_len, r->state, a[0], a[1]));
+        return answer(otp_read_ecc(image, r->rows_len, r->state, a[0], a[1]));
     case READ_VOTE:
-        return answer(made, otp_read_vote(image, r->rows_len, r->state, a[0], a[1], a[2]));
+        return answer(otp_read_vote(image, r->rows_len, r->state, a[0], a[1], a[2]));
     case WRITE_RAW:
-        return outcome(made, otp_write_raw(image, r->rows_len, r->state, a[0], a[1], a[2]));
+        return outcome(otp_write_raw(image, r->rows_len, r->state, a[0], a[1], a[2]));
     case WRITE_ECC:
-        return outcome(made, otp_write_ecc(image, r->rows_len, r->state, a[0], a[1], a[2]));
+        return outcome(otp_write_ecc(image, r->rows_len, r->state, a[0], a[1], a[2]));
     case ADVANCE:
-        return outcome(made, otp_advance(r->state, a[0], a[1], a[2], a[3]));
+        return outcome(otp_advance(r->state, a[0], a[1], a[2], a[3]));
     case SHOW:
-        return answer(made, otp_show(r->state, a[0], a[1], a[2]));
+        return answer(otp_show(r->state, a[0], a[1], a[2]));
     case ENTER_KEY:
-        return outcome(made, otp_enter_key(r->state, a[0], bytes, r->bytes));
+        return outcome(otp_enter_key(r->state, a[0], bytes, length));
     case RUN_JOB:
-        return outcome(made, otp_run_job(image, r->rows_len, r->state, bytes, r->bytes));
+        return outcome(otp_run_job(image, r->rows_len, r->state, bytes, length));
     case REHEARSE:
-        return outcome(made, otp_rehearse(image, r->rows_len, r->state, bytes, r->bytes, a[0]));
+        return outcome(otp_rehearse(image, r->rows_len, r->state, bytes, length, a[0]));
+    case TAKE_CHUNK:
+        return taken(otp_take_chunk(bytes, length, noted(r), lots[1].now, r->bytes[1]), length);
+    case END_JOB:
+        return outcome(otp_end_job(image, r->rows_len, r->state, bytes, length, noted(r)));
     }
     stop("there is no such call");
 }
 
-/* Writes the reply: what came back, and the entries that changed. */
-static void tell(const void *back, size_t size)
+/* Stops where bytes changed from a place on that the call was not lent to change. */
+static void hold(const lot *held, size_t from, size_t length)
+{
+    if (memcmp(held->now + from, held->before + from, length - from + BEHIND) != 0) {
+        stop("a call changed bytes that it was not lent for that");
+    }
+}
+
+/* Writes the reply: what came back, with so many bytes of the area, and the entries that changed. */
+static void tell(const void *back, size_t size, size_t area)
 {
     uint32_t count = changed();
 
     give(&count, sizeof count, 1);
     give(back, size, 1);
+    give(lots[0].now, 1, area);
     give(entries, sizeof *entries, count);
     if (fflush(stdout) != 0) {
         stop("a reply cannot be written");
@@ -191,10 +232,11 @@ static void tell(const void *back, size_t size)
 
 static void reply(const request *r)
 {
-    otp_outcome made;
-    size_t size = make(r, &made);
+    made m = make(r);
 
-    tell(&made, size);
+    hold(&lots[0], m.area, r->bytes[0]);
+    hold(&lots[1], 0, r->bytes[1]);
+    tell(&m.back, m.size, m.area);
 }
 
 static void reply_each(const request *r)
@@ -213,7 +255,7 @@ static void reply_each(const request *r)
         }
     }
     image[row] = before[row];
-    tell(answers, count * sizeof *answers);
+    tell(answers, count * sizeof *answers, 0);
 }
 
 int main(void)

@@ -8,7 +8,8 @@
 enum { ROWS = 4096, JOB = 7 + 6 * 512, STACK = 65536 };
 
 static uint32_t blank[ROWS], burnt[ROWS], rows[ROWS];
-static uint8_t job[JOB], key[16] = {1};
+static uint8_t job[JOB], area[OTP_AREA_BYTES], key[16] = {1};
+static const otp_note none, all = {.counted = JOB};
 static otp_state state;
 static otp_answer answer;
 
@@ -26,12 +27,17 @@ static void show(void) { answer = otp_show(state, 0, 0, 9); }
 static void enter_key(void) { keep(otp_enter_key(state, 0, key, sizeof key)); }
 static void run_job(void) { keep(otp_run_job(rows, ROWS, state, job, JOB)); }
 static void rehearse(void) { keep(otp_rehearse(rows, ROWS, state, job, JOB, 2700)); }
+static void take_byte(void) { answer = otp_take_chunk(area, sizeof area, none, job, 1).answer; }
+static void take_chunk(void) { answer = otp_take_chunk(area, sizeof area, none, job, JOB).answer; }
+static void end_job(void) { keep(otp_end_job(rows, ROWS, state, area, sizeof area, all)); }
 
 static const struct { const char *name; void (*call)(void); const uint32_t *board; } calls[] = {
     {"reset", reset, burnt}, {"read raw", read_raw, burnt}, {"read ECC", read_ecc, burnt},
     {"read a vote of 8", read_vote, burnt}, {"write raw", write_raw, burnt}, {"write ECC", write_ecc, burnt},
     {"advance a lock", advance, burnt}, {"show a lock", show, burnt}, {"enter a key", enter_key, burnt},
     {"run a job of 512", run_job, blank}, {"rehearse, 2,700 pulses", rehearse, blank},
+    /* What is ended is the job that the chunk before it left in the area. */
+    {"take a byte", take_byte, burnt}, {"take a job of 512", take_chunk, burnt}, {"end a job of 512", end_job, blank},
 };
 
 static size_t stack_used(void (*call)(void), const uint32_t *board)

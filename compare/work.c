@@ -1,15 +1,18 @@
 /* Each call of libotp.a on one struct that holds all that it takes, for src/bin/timings/. The face takes the state by value, and a
    call that can change it gives it back by value, so each of these copies it in and, where it comes back, out: what any caller in C
-   does. The last two do nothing but that. Before them stands what a screen does with the state. */
+   does. The last two do nothing but that. Before them stands what a screen does with the state. A chunk begins at the note, and leaves
+   it as it was, so that the next does the same. */
 #include "otp.h"
 
-enum { ROWS = 4096, JOB = 7 + 6 * 512, KEY = 16 };
+enum { ROWS = 4096, JOB = 7 + 6 * 512, KEY = 16, SINGLE = 100 };
 
 /* The same as `Work` in src/bin/timings/work.rs. Aligned as a variable of its own would be: a state that is not is copied twice. */
 typedef struct {
     _Alignas(8) uint32_t rows[ROWS];
     uint8_t job[JOB];
     uint8_t key[KEY];
+    uint8_t area[OTP_AREA_BYTES];
+    otp_note note, noted;
     uint32_t caller, row, count, value, domain, page, level, limit;
     otp_state state;
     otp_answer answer;
@@ -32,6 +35,35 @@ void work_show(work *w) { w->answer = otp_show(w->state, w->caller, w->domain, w
 void work_enter_key(work *w) { keep(w, otp_enter_key(w->state, w->caller, w->key, KEY)); }
 void work_run_job(work *w) { keep(w, otp_run_job(w->rows, ROWS, w->state, w->job, JOB)); }
 void work_rehearse(work *w) { keep(w, otp_rehearse(w->rows, ROWS, w->state, w->job, JOB, w->limit)); }
+void work_end_job(work *w) { keep(w, otp_end_job(w->rows, ROWS, w->state, w->area, sizeof w->area, w->note)); }
+
+static otp_taken take(work *w, otp_note note, uint64_t count)
+{
+    return otp_take_chunk(w->area, sizeof w->area, note, w->job + note.counted, count);
+}
+
+static void note(work *w, otp_taken taken)
+{
+    w->answer = taken.answer;
+    w->noted = taken.note;
+}
+
+/* What is left of the job in one chunk; so many bytes of it one by one; all of it and its end. */
+void work_take_chunk(work *w) { note(w, take(w, w->note, JOB - w->note.counted)); }
+
+void work_take_bytes(work *w)
+{
+    otp_taken taken = {.note = w->note};
+    for (int i = 0; i < SINGLE; i++)
+        taken = take(w, taken.note, 1);
+    note(w, taken);
+}
+
+void work_send_job(work *w)
+{
+    work_take_chunk(w);
+    keep(w, otp_end_job(w->rows, ROWS, w->state, w->area, sizeof w->area, w->noted));
+}
 
 void work_bits_burnt(work *w) { w->answer = (otp_answer){.value = w->state.tallies[w->page]}; }
 

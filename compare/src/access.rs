@@ -100,9 +100,9 @@ impl Model {
         let counted = if self.has(Fault::PulsesOfTarget) { 0 } else { old };
         let burnt = Answer::burnt(0, newly_set(counted, new));
         let whole = new;
-        Outcome {
-            answer: other(self.fault, Fault::WriteFlags, new, burnt),
-            state: kept(self.fault, state, &[Named { row, old, new, whole }]),
-        }
+        Outcome::new(
+            other(self.fault, Fault::WriteFlags, new, burnt),
+            kept(self.fault, state, &[Named { row, old, new, whole }]),
+        )
     }
 }

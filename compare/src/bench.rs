@@ -1,10 +1,11 @@
-//! Makes each call on both sides and compares everything that comes back: the answer, the state, every row.
+//! Makes each call on both sides and compares everything that comes back: the answer, the state, every row, a chunk's note and area.
 
 use crate::call::{Call, Chip};
 use crate::counts::Counts;
 use crate::ends::Ends;
 use crate::locks::{key_page, owner};
-use crate::shape::{Answer, State, ROWS};
+use crate::shape::{Answer, Lead, Outcome, State, ROWS};
+use crate::words::Words;
 
 /// The rows lie in a longer buffer, so that a slice can be too long and a stray write is seen.
 pub const BUFFER: usize = 4352;
@@ -21,6 +22,7 @@ pub struct Bench<'a> {
     pub state: State,
     pub counts: Counts,
     pub ends: Ends,
+    pub words: Words,
 }
 
 impl<'a> Bench<'a> {
@@ -33,6 +35,7 @@ impl<'a> Bench<'a> {
             state: State::blank(),
             counts: Counts::default(),
             ends: Ends::default(),
+            words: Words::default(),
         }
     }
 
@@ -62,6 +65,24 @@ impl<'a> Bench<'a> {
 
     /// Makes the call with a slice of the given length.
     pub fn call_with(&mut self, call: &Call, length: usize) -> Result<Answer, Difference> {
+        self.made(call, length).map(|made| made.answer)
+    }
+
+    /// Takes a chunk, and goes on with the note and the area that it leaves.
+    pub fn take(&mut self, lead: &mut Lead, chunk: &[u8]) -> Result<Answer, Difference> {
+        let call = Call::TakeChunk {
+            lead: lead.clone(),
+            chunk: chunk.to_vec(),
+        };
+        let made = self.made(&call, ROWS)?;
+        if let Some(left) = made.lead {
+            *lead = left;
+        }
+        Ok(made.answer)
+    }
+
+    /// Makes the call on both sides, and gives what came back.
+    fn made(&mut self, call: &Call, length: usize) -> Result<Outcome, Difference> {
         let setting = call.rows().map_or(String::new(), |(row, _)| self.setting(row));
         let theirs = self.library.make(call, &mut self.theirs[..length], self.state);
         let ours = self.model.make(call, &mut self.ours[..length], self.state);
@@ -71,7 +92,7 @@ impl<'a> Bench<'a> {
             return Err(self.report(call, length, &setting, &found));
         }
         self.state = theirs.state;
-        Ok(theirs.answer)
+        Ok(theirs)
     }
 
     fn row_differs(&self) -> Option<String> {

@@ -4,7 +4,8 @@
 use std::fmt;
 use std::ops::Range;
 
-use crate::shape::{Answer, Outcome, State, ROWS, SECURE};
+use crate::part::Part;
+use crate::shape::{Answer, Lead, Note, Outcome, State, ROWS, SECURE};
 
 /// What makes calls: the library, the model.
 pub trait Chip {
@@ -31,11 +32,12 @@ pub enum Lent {
     ToBurn,
 }
 
-/// What comes back: an answer alone, or the state too.
+/// What comes back: an answer alone, or the state too, or the note and the area.
 #[derive(Clone, Copy, Debug, PartialEq, Eq)]
 pub enum Back {
     Answer,
     State,
+    Lead,
 }
 
 /// What holds of a call whatever its arguments are. The numbers are in the order of their standing.
@@ -50,6 +52,30 @@ pub struct Kind {
 enum Argument<'a> {
     Number(u32),
     Bytes(&'a [u8]),
+    Lead(&'a Lead),
+}
+
+impl<'a> Argument<'a> {
+    /// The numbers that the driver takes for it: the bytes of a note are four.
+    fn numbers(&self) -> Vec<u32> {
+        match self {
+            Argument::Number(number) => vec![*number],
+            Argument::Bytes(_) => Vec::new(),
+            Argument::Lead(lead) => {
+                let mut bytes = Vec::new();
+                lead.note.put(&mut bytes);
+                <[u32; 4]>::take(&mut bytes.as_slice()).map_or(Vec::new(), Vec::from)
+            }
+        }
+    }
+
+    fn bytes(&self) -> Option<&'a [u8]> {
+        match self {
+            Argument::Number(_) => None,
+            Argument::Bytes(bytes) => Some(bytes),
+            Argument::Lead(lead) => Some(&lead.area),
+        }
+    }
 }
 
 impl From<&u32> for Argument<'_> {
@@ -61,6 +87,12 @@ impl From<&u32> for Argument<'_> {
 impl<'a> From<&'a Vec<u8>> for Argument<'a> {
     fn from(bytes: &'a Vec<u8>) -> Self {
         Argument::Bytes(bytes)
+    }
+}
+
+impl<'a> From<&'a Lead> for Argument<'a> {
+    fn from(lead: &'a Lead) -> Self {
+        Argument::Lead(lead)
     }
 }
 
@@ -98,17 +130,19 @@ macro_rules! calls {
 }
 
 calls! {
-    "reset"     Reset {}                                                    ToRead, State,  [0, 1, 3];
-    "read_raw"  ReadRaw { caller: u32, row: u32 }                           ToRead, Answer, [0, 1, 4, 2, 6, 7, 3];
-    "read_ecc"  ReadEcc { caller: u32, row: u32 }                           ToRead, Answer, [0, 1, 4, 2, 5, 6, 7, 3, 8];
-    "read_vote" ReadVote { caller: u32, row: u32, count: u32 }              ToRead, Answer, [0, 1, 4, 2, 5, 6, 7, 3];
-    "write_raw" WriteRaw { caller: u32, row: u32, value: u32 }              ToBurn, State,  [0, 1, 4, 2, 6, 7, 3];
-    "write_ecc" WriteEcc { caller: u32, row: u32, value: u32 }              ToBurn, State,  [0, 1, 4, 2, 5, 6, 7, 3, 9];
-    "advance"   Advance { caller: u32, domain: u32, page: u32, level: u32 } Never,  State,  [0, 4, 7];
-    "show"      Show { caller: u32, domain: u32, page: u32 }                Never,  Answer, [0, 4];
-    "enter_key" EnterKey { caller: u32, key: Vec<u8> }                      Never,  State,  [0, 4, 7];
-    "run_job"   RunJob { job: Vec<u8> }                                     ToBurn, State,  [0, 1, 10, 11, 7, 3, 9];
-    "rehearse"  Rehearse { limit: u32, job: Vec<u8> }                       ToBurn, State,  [0, 1, 10, 11, 7, 3, 9];
+    "reset"      Reset {}                                                    ToRead, State,  [0, 1, 3];
+    "read_raw"   ReadRaw { caller: u32, row: u32 }                           ToRead, Answer, [0, 1, 4, 2, 6, 7, 3];
+    "read_ecc"   ReadEcc { caller: u32, row: u32 }                           ToRead, Answer, [0, 1, 4, 2, 5, 6, 7, 3, 8];
+    "read_vote"  ReadVote { caller: u32, row: u32, count: u32 }              ToRead, Answer, [0, 1, 4, 2, 5, 6, 7, 3];
+    "write_raw"  WriteRaw { caller: u32, row: u32, value: u32 }              ToBurn, State,  [0, 1, 4, 2, 6, 7, 3];
+    "write_ecc"  WriteEcc { caller: u32, row: u32, value: u32 }              ToBurn, State,  [0, 1, 4, 2, 5, 6, 7, 3, 9];
+    "advance"    Advance { caller: u32, domain: u32, page: u32, level: u32 } Never,  State,  [0, 4, 7];
+    "show"       Show { caller: u32, domain: u32, page: u32 }                Never,  Answer, [0, 4];
+    "enter_key"  EnterKey { caller: u32, key: Vec<u8> }                      Never,  State,  [0, 4, 7];
+    "run_job"    RunJob { job: Vec<u8> }                                     ToBurn, State,  [0, 1, 10, 11, 7, 3, 9];
+    "rehearse"   Rehearse { limit: u32, job: Vec<u8> }                       ToBurn, State,  [0, 1, 10, 11, 7, 3, 9];
+    "take_chunk" TakeChunk { lead: Lead, chunk: Vec<u8> }                    Never,  Lead,   [0, 12];
+    "end_job"    EndJob { lead: Lead }                                       ToBurn, State,  [0, 1, 12, 10, 11, 7, 3, 9];
 }
 
 impl Call {
@@ -124,23 +158,23 @@ impl Call {
     /// The arguments that are numbers, then zeros: the driver takes four.
     pub fn numbers(&self) -> [u32; 4] {
         let mut four = [0; 4];
-        let numbers = self.arguments().into_iter().filter_map(|(_, argument)| match argument {
-            Argument::Number(number) => Some(number),
-            Argument::Bytes(_) => None,
-        });
+        let numbers = self
+            .arguments()
+            .into_iter()
+            .flat_map(|(_, argument)| argument.numbers());
         for (place, number) in numbers.enumerate() {
             four[place] = number;
         }
         four
     }
 
-    /// The key's or the job's bytes, or none.
-    pub fn bytes(&self) -> &[u8] {
-        let bytes = self.arguments().into_iter().find_map(|(_, argument)| match argument {
-            Argument::Number(_) => None,
-            Argument::Bytes(bytes) => Some(bytes),
-        });
-        bytes.unwrap_or_default()
+    /// The bytes of a key or a job, or those of an area and of a chunk, where the call has them: the driver takes two lots.
+    pub fn bytes(&self) -> [&[u8]; 2] {
+        let mut lots = self
+            .arguments()
+            .into_iter()
+            .filter_map(|(_, argument)| argument.bytes());
+        [(); 2].map(|()| lots.next().unwrap_or_default())
     }
 
     /// The rows that the call names: the first, and how many.
@@ -178,6 +212,15 @@ impl fmt::Display for Call {
                 Argument::Number(value) if name == "value" => write!(out, " value {value:#x}")?,
                 Argument::Number(number) => write!(out, " {name} {number}")?,
                 Argument::Bytes(bytes) => write!(out, " {name} {}", hex(bytes))?,
+                Argument::Lead(Lead { note, area }) => {
+                    let Note { counted, least, part } = note;
+                    write!(
+                        out,
+                        " counted {counted} least {least} part {} area {}",
+                        hex(part),
+                        hex(area)
+                    )?;
+                }
             }
         }
         Ok(())

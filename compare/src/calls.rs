@@ -3,20 +3,17 @@
 use crate::call::{Call, Chip};
 use crate::fault::Fault;
 use crate::model::Model;
-use crate::shape::{Answer, Outcome, State};
+use crate::shape::{Answer, Lead, Outcome, State};
 use crate::tallies::{kept, Named};
 
 /// Done, with a new state.
 fn changed(state: State) -> Outcome {
-    Outcome {
-        answer: Answer::default(),
-        state,
-    }
+    Outcome::new(Answer::default(), state)
 }
 
 impl Chip for Model {
     fn make(&self, call: &Call, rows: &mut [u32], state: State) -> Outcome {
-        let kept = |answer| Outcome { answer, state };
+        let kept = |answer| Outcome::new(answer, state);
         let value = |value| kept(Answer::value(value));
         let done = match *call {
             Call::Reset {} => self.latched(rows, &state).map(changed),
@@ -39,10 +36,16 @@ impl Chip for Model {
             Call::EnterKey { caller, ref key } => self.entered(&state, caller, key).map(changed),
             Call::RunJob { ref job } => self.job(rows, &state, job, None),
             Call::Rehearse { limit, ref job } => self.job(rows, &state, job, Some(limit)),
+            Call::TakeChunk { ref lead, ref chunk } => self.taken(lead, chunk).map(|(answer, left)| Outcome {
+                lead: Some(left),
+                ..kept(answer)
+            }),
+            Call::EndJob { ref lead } => self.ended(rows, &state, lead),
         };
         done.unwrap_or_else(|number| Outcome {
             answer: Answer::refused(number),
             state: self.refused_state(call, rows, state),
+            lead: self.refused_lead(call),
         })
     }
 }
@@ -61,6 +64,14 @@ impl Model {
                 kept(self.fault, &state, &[Named { row, old, new, whole }])
             }
             _ => state,
+        }
+    }
+
+    /// The note and the area that a refused chunk leaves.
+    fn refused_lead(&self, call: &Call) -> Option<Lead> {
+        match call {
+            Call::TakeChunk { lead, chunk } => Some(self.kept_lead(lead, chunk)),
+            _ => None,
         }
     }
 }

@@ -2,8 +2,8 @@
 
 use crate::call::{Kind, CALLS};
 
-/// The numbers run from 0 to 11.
-const NUMBERS: usize = 12;
+/// The numbers run from 0 to 12.
+const NUMBERS: usize = 13;
 
 /// The numbers that a call can give to those who make it: none, where they do not make it at all.
 pub type CanGive = fn(&Kind) -> Vec<u32>;
@@ -41,7 +41,7 @@ impl Counts {
 
     pub fn print(&self, can_give: CanGive) {
         let heads: Vec<String> = (0..NUMBERS).map(|number| format!("{number:>8}")).collect();
-        println!("{:<10}{}{:>10}", "call", heads.concat(), "all");
+        println!("{:<11}{}{:>10}", "call", heads.concat(), "all");
         for (counts, kind) in self.given.iter().zip(CALLS) {
             let numbers = can_give(kind);
             if numbers.is_empty() {
@@ -53,7 +53,7 @@ impl Counts {
                     false => format!("{:>8}", "-"),
                 })
                 .collect();
-            println!("{:<10}{}{:>10}", kind.name, cells.concat(), counts.iter().sum::<u64>());
+            println!("{:<11}{}{:>10}", kind.name, cells.concat(), counts.iter().sum::<u64>());
         }
     }
 }

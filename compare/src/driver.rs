@@ -7,7 +7,7 @@ use std::process::{Child, ChildStdin, ChildStdout, Command, Stdio};
 
 use crate::call::{Back, Call};
 use crate::part::Part;
-use crate::shape::{Answer, State, ROWS, SECURE};
+use crate::shape::{Answer, Lead, Note, State, ROWS, SECURE};
 
 /// How many entries the driver's image has.
 const IMAGE: usize = 8192;
@@ -19,10 +19,11 @@ const READ_EACH: usize = 0x1_0000;
 /// Entries of the image that became another number.
 pub type Changed = Vec<(usize, u32)>;
 
-/// What came back: the state is there if the call gives one back.
+/// What came back: the state is there if the call gives one back, and so are a note and an area.
 pub struct Reply {
     pub answer: Answer,
     pub state: Option<State>,
+    pub lead: Option<Lead>,
     pub changed: Changed,
 }
 
@@ -63,14 +64,15 @@ impl Driver {
 
     /// Makes one call on these rows.
     pub fn ask(&mut self, call: &Call, rows: &[u32], state: &State) -> Result<Reply, String> {
-        self.send(call.index(), call.numbers(), call.bytes(), rows, state)?;
-        self.receive(call.kind().back)
+        let lots = call.bytes();
+        self.send(call.index(), call.numbers(), lots, rows, state)?;
+        self.receive(call.kind().back, lots[0].len())
     }
 
     /// Reads a row with ECC for each of these entries in it, as Secure, on a chip that is blank otherwise.
     pub fn ask_each(&mut self, row: u32, entries: Range<u32>) -> Result<(Vec<Answer>, Changed), String> {
         let arguments = [SECURE, row, entries.start, entries.len() as u32];
-        self.send(READ_EACH, arguments, &[], &[0; ROWS], &State::blank())?;
+        self.send(READ_EACH, arguments, [&[]; 2], &[0; ROWS], &State::blank())?;
         let count: u32 = self.read()?;
         let answers = entries.map(|_| self.read()).collect::<Result<_, _>>()?;
         Ok((answers, self.receive_changed(count)?))
@@ -80,11 +82,11 @@ impl Driver {
         &mut self,
         call: usize,
         numbers: [u32; 4],
-        bytes: &[u8],
+        lots: [&[u8]; 2],
         rows: &[u32],
         state: &State,
     ) -> Result<(), String> {
-        self.write_down(call, numbers, bytes, rows, state);
+        self.write_down(call, numbers, lots, rows, state);
         let sent = match &mut self.input {
             Some(input) => input.write_all(&self.request),
             None => Err(io::ErrorKind::BrokenPipe.into()),
@@ -93,10 +95,10 @@ impl Driver {
     }
 
     /// The request's bytes. Only the entries that the driver's image lacks are among them.
-    fn write_down(&mut self, call: usize, numbers: [u32; 4], bytes: &[u8], rows: &[u32], state: &State) {
+    fn write_down(&mut self, call: usize, numbers: [u32; 4], lots: [&[u8]; 2], rows: &[u32], state: &State) {
         let differ: Vec<usize> = differences(rows, &self.image);
         self.request.clear();
-        for count in [call, rows.len(), differ.len(), bytes.len()] {
+        for count in [call, rows.len(), differ.len(), lots[0].len(), lots[1].len()] {
             (count as u32).put(&mut self.request);
         }
         for number in numbers {
@@ -108,18 +110,35 @@ impl Driver {
             (place as u32).put(&mut self.request);
             rows[place].put(&mut self.request);
         }
-        self.request.extend(bytes);
+        self.request.extend(lots.concat());
     }
 
-    fn receive(&mut self, back: Back) -> Result<Reply, String> {
+    /// What the call gives back, with an area of so many bytes if it does.
+    fn receive(&mut self, back: Back, length: usize) -> Result<Reply, String> {
         let count: u32 = self.read()?;
         let answer = self.read()?;
-        let state = match back {
-            Back::State => Some(self.read()?),
-            Back::Answer => None,
-        };
+        let (mut state, mut lead) = (None, None);
+        match back {
+            Back::Answer => {}
+            Back::State => state = Some(self.read()?),
+            Back::Lead => lead = Some(self.receive_lead(length)?),
+        }
         let changed = self.receive_changed(count)?;
-        Ok(Reply { answer, state, changed })
+        Ok(Reply {
+            answer,
+            state,
+            lead,
+            changed,
+        })
+    }
+
+    fn receive_lead(&mut self, length: usize) -> Result<Lead, String> {
+        let note: Note = self.read()?;
+        let mut area = vec![0; length];
+        match self.output.read_exact(&mut area) {
+            Ok(()) => Ok(Lead { note, area }),
+            Err(error) => Err(self.lost(error)),
+        }
     }
 
     fn receive_changed(&mut self, count: u32) -> Result<Changed, String> {

@@ -118,6 +118,46 @@ faults! {
     CutLockWhole      "cut-lock-whole"      "a limit cuts no lock row: one that is begun is burnt whole";
     PlaceDataOnly     "place-data-only"     "the place counts data rows alone";
     JobTallyLockWord  "job-tally-lock-word" "a job's lock rows count for the page that they lock";
+    Room3078          "room-3078"           "a chunk takes an area of 3,078 bytes";
+    Room3080          "room-3080"           "a chunk refuses an area of 3,079 bytes";
+    RefusedMoves      "refused-moves"       "a refused chunk moves the note";
+    RefusedStores     "refused-stores"      "a refused chunk puts into the area what fits";
+    Byte3080          "byte-3080"           "a longer area keeps the 3,080th byte too";
+    AreaCleared       "area-cleared"        "a chunk clears the area behind its last byte";
+    Count3079         "count-3079"          "the count of a job's bytes stops at 3,079";
+    CountAsItCame     "count-as-it-came"    "a count above 3,080 is given back as it came";
+    WordRefuses       "word-refuses"        "the early word is the number of the answer";
+    PartForgotten     "part-forgotten"      "a chunk forgets the entry that was begun before it";
+    PartInArea        "part-in-area"        "an entry that was begun is read in the area";
+    PartTail          "part-tail"           "bytes behind those of the entry begun stay in the note";
+    PartPastCount     "part-past-count"     "bytes past the count are noted as an entry begun";
+    PartEmptied       "part-emptied"        "an empty chunk empties the part";
+    LeastForgotten    "least-forgotten"     "the last row is forgotten between chunks";
+    LeastIsAbove      "least-is-above"      "a row that is the least one is 11 early";
+    LeastOfGood       "least-of-good"       "an entry that is out of order leaves the least row";
+    LeastOfFormed     "least-of-formed"     "an entry of bad form leaves the least row";
+    LeastRises        "least-rises"         "the least row never falls";
+    LastWord          "last-word"           "of a chunk's faults the last is said";
+    TenBeforeEleven   "10-before-11"        "of a chunk's faults a 10 is said before any 11";
+    EarlyOrderFirst   "early-order-first"   "an entry out of order is 11 early, though its form is bad";
+    WordSticks        "word-sticks"         "once a byte came past the count, an empty chunk says 10";
+    HeadAgain         "head-again"          "each chunk says again what is wrong with the head";
+    MarkAtItsEnd      "mark-at-its-end"     "a wrong mark is said at its last byte";
+    VersionAtLow      "version-at-low"      "a wrong version is said at its low byte";
+    RowAtOnce         "row-at-once"         "a row out of place is said at the row's last byte";
+    EarlyAsOne        "early-as-1"          "the early word goes by version 1's rule in version 2";
+    EarlyAsTwo        "early-as-2"          "the early word goes by version 2's rule in version 1";
+    UnknownAsTwo      "unknown-as-2"        "an unknown version goes on by version 2's rule";
+    Early513          "early-513"           "a count of 513 is not said early";
+    PastUnsaid        "past-unsaid"         "a byte past the count is not said";
+    PastTooSoon       "past-too-soon"       "the last byte of the last entry is said to be past the count";
+    PastOnce          "past-once"           "a chunk onto a count of 3,080 says nothing";
+    End12First        "end-12-first"        "the end is 12 before 1";
+    End10First        "end-10-first"        "the end is 10 for its count before 12";
+    EndRoomOfCount    "end-room-of-count"   "the end needs an area as long as the count alone";
+    EndWholeArea      "end-whole-area"      "the end judges the whole area";
+    End3079           "end-3079"            "the end judges 3,079 bytes where more were counted";
+    EndByPart         "end-by-part"         "the end is 10 where the note has an entry begun";
 }
 
 /// The fault of a name.

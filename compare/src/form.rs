@@ -22,7 +22,8 @@ pub struct Entry {
 }
 
 impl Entry {
-    fn new(part: &[u8]) -> Entry {
+    /// The entry of six bytes.
+    pub fn new(part: &[u8]) -> Entry {
         Entry {
             row: number(&part[0..2]),
             kind: part[2],
@@ -31,7 +32,7 @@ impl Entry {
     }
 
     /// Whether its kind is one, and its value fits it.
-    fn is_good(&self) -> bool {
+    pub fn is_good(&self) -> bool {
         self.kind == RAW || (self.kind == ECC && self.value <= 0xffff)
     }
 }
@@ -42,7 +43,8 @@ pub struct Job {
     pub entries: Vec<Entry>,
 }
 
-fn number(bytes: &[u8]) -> u32 {
+/// The number of some bytes, low byte first.
+pub fn number(bytes: &[u8]) -> u32 {
     bytes.iter().rev().fold(0, |high, byte| high * 256 + u32::from(*byte))
 }
 

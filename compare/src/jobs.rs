@@ -66,7 +66,7 @@ impl Model {
         let old: Vec<u32> = burns.iter().map(|burn| rows[burn.row]).collect();
         let answer = self.burnt(rows, &burns, limit);
         let state = self.left(rows, state, &burns, &old, limit);
-        Ok(Outcome { answer, state })
+        Ok(Outcome::new(answer, state))
     }
 
     /// The state that a done job leaves: nothing latched changes but the tallies.
@@ -104,7 +104,7 @@ impl Model {
             place,
             ..Answer::refused(number)
         };
-        Outcome { answer, state }
+        Outcome::new(answer, state)
     }
 
     /// Burns what was judged, and says how far that came.

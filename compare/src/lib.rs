@@ -2,11 +2,12 @@
 //!
 //! `call` has the list of the calls and `shape` the fields of what goes into them and comes back.
 //! The model goes in one line, from the row up: `row`, `code`, `wear`, `locks`, `tallies`, `keys`, `permission`,
-//! `model`, `access`, `latches`, `form`, `jobs`, `calls`. Each uses only those before it, and what has no rule in it; `tests/line.rs` sees to it.
+//! `model`, `access`, `latches`, `form`, `jobs`, `early`, `lead`, `calls`. Each uses only those before it, and what has no rule in it; `tests/line.rs` sees to it.
 //! The library is in `face`, behind the child process of `driver`.
 //! `plain` is for timings alone, and is not there when the comparison is built.
 //! Everything else draws calls, makes them on both sides and compares what comes back. `cuts` says what is promised of a job that is cut and
-//! run again, and `ends` counts how such runs end. `agreement` says when two chips look the same to a
+//! run again, and `ends` counts how such runs end. `sent` says what is promised of a job that comes over the lead in chunks, and `words` counts
+//! what was said of such jobs before their end. `agreement` says when two chips look the same to a
 //! Non-secure plug-in; `unlike`, `pairs`, `two_chips`, `plugins`, `written_pair` and `sharpness` hold the library to that.
 
 pub mod call;
@@ -16,12 +17,14 @@ pub mod shape;
 pub mod access;
 pub mod calls;
 pub mod code;
+pub mod early;
 pub mod fault;
 pub mod form;
 pub mod jobs;
 pub mod keys;
 pub mod ladder;
 pub mod latches;
+pub mod lead;
 pub mod locks;
 pub mod model;
 pub mod permission;
@@ -46,13 +49,17 @@ pub mod bench;
 pub mod callers;
 pub mod counts;
 pub mod cuts;
+pub mod cuttings;
 pub mod ends;
 pub mod every;
+pub mod every_cutting;
 pub mod every_lock_cut;
+pub mod every_note;
 pub mod every_tally;
 pub mod every_version;
 pub mod images;
 pub mod jobfiles;
+pub mod leads;
 pub mod lock_bytes;
 pub mod lock_rows;
 pub mod pairs;
@@ -60,10 +67,12 @@ pub mod plugins;
 pub mod random;
 pub mod recount;
 pub mod run;
+pub mod sent;
 pub mod sequences;
 pub mod sharpness;
 pub mod spoilt;
 pub mod states;
 pub mod two_chips;
 pub mod unlike;
+pub mod words;
 pub mod written_pair;

@@ -1,12 +1,14 @@
-//! The mix of calls: one image after another, each met by some hundred calls, with cut sequences in between.
+//! The mix of calls: one image after another, each met by some hundred calls, with cut jobs and jobs sent in chunks in between.
 
 use crate::arguments;
 use crate::bench::{Bench, Difference};
 use crate::call::{Call, Chip};
 use crate::code::Codes;
+use crate::cuttings;
 use crate::form::Entry;
 use crate::images::{too_large, Image};
 use crate::jobfiles;
+use crate::leads;
 use crate::locks::{key_page, owner};
 use crate::random::Random;
 use crate::recount::tallies_are_right;
@@ -23,10 +25,11 @@ pub fn run(bench: &mut Bench, codes: &Codes, sound: &dyn Chip, calls: u64, seed:
     let mut random = Random::new(seed);
     while bench.counts.calls < calls {
         let room = calls - bench.counts.calls;
-        if room >= sequences::MOST_CALLS && !random.once_in(4) {
-            sequences::cut(&mut random, bench, codes)?;
-        } else {
-            episode(&mut random, bench, codes, sound, room.min(EPISODE))?;
+        match random.below(16) {
+            0..=5 if room >= sequences::MOST_CALLS => sequences::cut(&mut random, bench, codes)?,
+            6..=9 if room >= cuttings::MOST_CALLS => cuttings::send(&mut random, bench, codes)?,
+            10..=13 if room >= leads::MOST_CALLS => leads::any(&mut random, bench, codes)?,
+            _ => episode(&mut random, bench, codes, sound, room.min(EPISODE))?,
         }
     }
     Ok(())

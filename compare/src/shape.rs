@@ -13,6 +13,10 @@ pub const LARGEST: u32 = 0xff_ffff;
 /// The first row that holds a lock word.
 pub const LOCK_ROWS: u32 = 0xf80;
 
+/// The bytes of a job of 512 entries, which an area must have room for, and how many a note counts where there were more.
+pub const AREA: usize = 3079;
+pub const PAST: u32 = 3080;
+
 /// The callers, which are the domains of the locks too.
 pub const SECURE: u32 = 0;
 pub const NONSECURE: u32 = 1;
@@ -104,20 +108,58 @@ impl State {
     }
 }
 
-/// The answer of a call that may change the state, and the state afterwards.
-#[derive(Clone, Copy, Debug, PartialEq, Eq)]
+shape! {
+    /// What is noted of a job between its chunks: the bytes counted, the lowest row that may come next, and the bytes of the one entry
+    /// that is begun. A fresh one is blank.
+    Note {
+        counted: u32,
+        least: u32,
+        part: [u8; 8],
+    }
+}
+
+/// A job on its way over the lead: the note, and the lent area that keeps its bytes.
+#[derive(Clone, Debug, PartialEq, Eq)]
+pub struct Lead {
+    pub note: Note,
+    pub area: Vec<u8>,
+}
+
+impl Lead {
+    /// Where the library's differs from the model's.
+    fn differs(&self, ours: &Lead) -> Option<String> {
+        let byte = || {
+            let mut bytes = self.area.iter().zip(&ours.area).enumerate();
+            let (place, (theirs, ours)) = bytes.find(|(_, (theirs, ours))| theirs != ours)?;
+            Some(format!("area[{place}]: library {theirs:#04x}, model {ours:#04x}"))
+        };
+        self.note.differs(&ours.note, "note").or_else(byte)
+    }
+}
+
+/// What comes back of a call: its answer, the state afterwards, and of a chunk the note and the area that it leaves.
+#[derive(Clone, Debug, PartialEq, Eq)]
 pub struct Outcome {
     pub answer: Answer,
     pub state: State,
+    pub lead: Option<Lead>,
 }
 
 impl Outcome {
+    /// Of a call that is handed no area.
+    pub fn new(answer: Answer, state: State) -> Outcome {
+        let lead = None;
+        Outcome { answer, state, lead }
+    }
+
     /// The first field in which the library's outcome differs from the model's.
     pub fn differs(&self, ours: &Outcome) -> Option<String> {
         if self == ours {
             return None;
         }
         let answer = self.answer.differs(&ours.answer, "answer");
-        answer.or_else(|| self.state.differs(&ours.state, "state"))
+        let state = || self.state.differs(&ours.state, "state");
+        let lead = || self.lead.as_ref()?.differs(ours.lead.as_ref()?);
+        answer.or_else(state).or_else(lead)
     }
 }

@@ -2,7 +2,7 @@
 
 use std::fs;
 
-const LINE: [&str; 18] = [
+const LINE: [&str; 20] = [
     "part",
     "shape",
     "call",
@@ -20,6 +20,8 @@ const LINE: [&str; 18] = [
     "latches",
     "form",
     "jobs",
+    "early",
+    "lead",
     "calls",
 ];
 

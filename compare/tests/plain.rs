@@ -1,17 +1,20 @@
-//! The timed rules against the model, on the comparison's own mix of calls: else a time would say nothing.
+//! The timed rules against the model, on the comparison's own mix of calls and on every cutting of a job: else a time would say nothing.
 
 use compare::bench::Bench;
 use compare::call::{Call, Chip};
+use compare::every_cutting::every_cutting;
+use compare::every_note::every_note;
 use compare::model::Model;
-use compare::plain::{access, chip, jobs};
+use compare::plain::{access, chip, jobs, lead as plain};
 use compare::run::run;
-use compare::shape::{Outcome, State};
+use compare::shape::{Lead, Outcome, State};
 
 /// The timed rules as what makes calls.
 struct Plain;
 
 impl Chip for Plain {
     fn make(&self, call: &Call, rows: &mut [u32], mut state: State) -> Outcome {
+        let mut left = None;
         let answer = match *call {
             Call::Reset {} => chip::reset(rows, &mut state),
             Call::ReadRaw { caller, row } => access::read_raw(rows, &state, caller, row),
@@ -29,8 +32,17 @@ impl Chip for Plain {
             Call::EnterKey { caller, ref key } => chip::enter_key(&mut state, caller, key),
             Call::RunJob { ref job } => jobs::run_job(rows, &mut state, job),
             Call::Rehearse { limit, ref job } => jobs::rehearse(rows, &mut state, job, limit),
+            Call::TakeChunk { ref lead, ref chunk } => {
+                let Lead { note, area } = left.insert(lead.clone());
+                plain::take_chunk(area, note, chunk)
+            }
+            Call::EndJob { ref lead } => plain::end_job(rows, &mut state, &lead.area, &lead.note),
         };
-        Outcome { answer, state }
+        Outcome {
+            answer,
+            state,
+            lead: left,
+        }
     }
 }
 
@@ -39,4 +51,6 @@ fn the_plain_rules_answer_as_the_model_does() {
     let model = Model::sound();
     let mut bench = Bench::new(&Plain, &model);
     run(&mut bench, &model.codes, &model, 200_000, 3).expect("no call differs");
+    every_cutting(&mut bench).expect("no call differs");
+    every_note(&mut bench).expect("no call differs");
 }

@@ -1,12 +1,13 @@
 //! The slips that request 2026-09 invites: each is found among the jobs of every version, and those that break what is promised of a cut job
 //! are found by its rows and answers, without a model to compare with.
 
-use compare::bench::Bench;
+use compare::bench::{Bench, Difference};
 use compare::every_lock_cut::every_lock_cut;
 use compare::every_version::every_version;
 use compare::fault::Fault;
 use compare::model::Model;
-use compare::run::run;
+use compare::random::Random;
+use compare::sequences::cut;
 
 /// Each slip, and whether it breaks the promise, or keeps a kind of end from coming up.
 const SLIPS: [(Fault, bool); 24] = [
@@ -49,6 +50,12 @@ fn each_slip_is_found_among_all_versions() {
     }
 }
 
+/// Random jobs that are cut. What is promised of a job that is sent in chunks is tried elsewhere.
+fn cut_jobs(bench: &mut Bench, sound: &Model) -> Result<(), Difference> {
+    let mut random = Random::new(1);
+    (0..500).try_for_each(|_| cut(&mut random, bench, &sound.codes))
+}
+
 /// Both sides slip alike, so no call differs.
 #[test]
 fn the_promise_finds_each_slip_that_breaks_it() {
@@ -56,7 +63,7 @@ fn the_promise_finds_each_slip_that_breaks_it() {
     for (slip, breaks) in SLIPS {
         let both = Model::faulty(slip);
         let mut bench = Bench::new(&both, &both);
-        let found = every_lock_cut(&mut bench).and_then(|()| run(&mut bench, &sound.codes, &sound, 20_000, 1));
+        let found = every_lock_cut(&mut bench).and_then(|()| cut_jobs(&mut bench, &sound));
         assert_eq!(found.is_err(), breaks, "{slip:?}: {found:?}");
     }
 }

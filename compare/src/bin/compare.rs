@@ -9,6 +9,7 @@
 //!     compare --callers                       every caller in every domain and at every level, and every byte of a lock row latched
 //!     compare --tallies                       tallies of every kind before every call: each row written and counted, jobs cut at every pulse
 //!     compare --versions                      jobs of every version over the border rows, and version 2 jobs cut at every pulse
+//!     compare --lead                          jobs sent in chunks, cut at every byte, and every kind of note and area
 //!     compare [CALLS] [SEED] --plug-ins       Non-secure calls on two chips that agree; 200,000 random ones and seed 1 where not given
 //!     compare --plug-ins --fault NAME         the same with the model, with one fault, in the library's place: does it leak?
 //!
@@ -24,7 +25,9 @@ use compare::call::Chip;
 use compare::callers::every_caller;
 use compare::counts::to_anyone;
 use compare::every::{every_read, every_write};
+use compare::every_cutting::every_cutting;
 use compare::every_lock_cut::every_lock_cut;
+use compare::every_note::every_note;
 use compare::every_tally::every_tally;
 use compare::every_version::every_version;
 use compare::face::{self, Library};
@@ -49,6 +52,7 @@ enum Mode {
     Callers,
     Tallies,
     Versions,
+    Lead,
     PlugIns,
 }
 
@@ -85,6 +89,7 @@ fn wish() -> Result<Wish, String> {
             "--callers" => wish.mode = Mode::Callers,
             "--tallies" => wish.mode = Mode::Tallies,
             "--versions" => wish.mode = Mode::Versions,
+            "--lead" => wish.mode = Mode::Lead,
             "--plug-ins" => wish.mode = Mode::PlugIns,
             _ => numbers.push(word.parse::<u64>().map_err(|_| format!("not understood: '{word}'"))?),
         }
@@ -108,12 +113,16 @@ fn compare(wish: &Wish, library: &Library, sound: &Model) -> Result<(), String> 
     let result = run(&mut bench, &sound.codes, sound, wish.calls.unwrap_or(MIX), wish.seed);
     bench.counts.print(to_anyone);
     bench.ends.print();
+    bench.words.print();
     result.map_err(|Difference(line)| format!("seed {}: {line}", wish.seed))?;
     if let Some((name, number)) = bench.counts.missing(to_anyone) {
         return Err(format!("{name} never gave {number} in {} calls", bench.counts.calls));
     }
     if let Some(kind) = bench.ends.missing() {
         return Err(format!("no job with lock rows was cut {kind}"));
+    }
+    if let Some(kind) = bench.words.missing() {
+        return Err(format!("no job sent in chunks was {kind}"));
     }
     println!("{} calls compared, 0 differ", bench.counts.calls);
     Ok(())
@@ -158,7 +167,7 @@ fn every(
 /// Makes calls on a bench, the same ones each time.
 type Calls = fn(&mut Bench) -> Result<(), Difference>;
 
-/// Every lock row, every caller, every tally, or every version: one list of calls after another, on one bench.
+/// Every lock row, every caller, every tally, every version, or every cutting: one list of calls after another, on one bench.
 fn all_of(calls: &[Calls], wish: &Wish, library: &Library, sound: &Model) -> Result<(), String> {
     let model = wish.fault.map_or(sound.clone(), Model::faulty);
     let mut bench = Bench::new(library, &model);
@@ -234,6 +243,7 @@ fn main() -> ExitCode {
         Mode::Callers => all_of(&[every_caller, every_lock_byte], &wish, &library, &sound),
         Mode::Tallies => all_of(&[every_tally], &wish, &library, &sound),
         Mode::Versions => all_of(&[every_version, every_lock_cut], &wish, &library, &sound),
+        Mode::Lead => all_of(&[every_cutting, every_note], &wish, &library, &sound),
         Mode::PlugIns => plug_ins(&wish, &library, &sound),
     };
     match done {

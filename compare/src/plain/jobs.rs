@@ -5,17 +5,17 @@ use crate::plain::tallies::gain;
 use crate::plain::{answer, refuse_if, row as one, Refusal};
 use crate::shape::{Answer, State, LARGEST, ROWS, SECURE};
 
-const HEAD: usize = 7;
-const ENTRY: usize = 6;
+pub const HEAD: usize = 7;
+pub const ENTRY: usize = 6;
 
-struct Entry {
-    row: u32,
+pub struct Entry {
+    pub row: u32,
     kind: u8,
     value: u32,
 }
 
 impl Entry {
-    fn new(bytes: &[u8]) -> Entry {
+    pub fn new(bytes: &[u8]) -> Entry {
         Entry {
             row: u32::from(u16::from_le_bytes([bytes[0], bytes[1]])),
             kind: bytes[2],
@@ -23,7 +23,7 @@ impl Entry {
         }
     }
 
-    fn bad(&self) -> bool {
+    pub fn bad(&self) -> bool {
         self.kind > 1 || (self.kind == 0 && self.value > 0xffff)
     }
 
@@ -40,7 +40,7 @@ fn entries(job: &[u8]) -> impl Iterator<Item = Entry> + '_ {
     job[HEAD..].chunks_exact(ENTRY).map(Entry::new)
 }
 
-fn version(job: &[u8]) -> u16 {
+pub fn version(job: &[u8]) -> u16 {
     u16::from_le_bytes([job[3], job[4]])
 }
 
@@ -52,12 +52,16 @@ fn malformed(job: &[u8]) -> bool {
     count > 512 || job.len() != HEAD + ENTRY * count || entries(job).any(|entry| entry.bad())
 }
 
+pub fn out_of_place(entry: &Entry, version: u16, least: u32) -> bool {
+    let lock = version == 2 && entry.kind == 1 && (0xf80..ROWS as u32).contains(&entry.row);
+    (entry.row >= 0xf40 && !lock) || entry.row < least
+}
+
 fn out_of_order(job: &[u8]) -> bool {
-    let locks = version(job) == 2;
+    let version = version(job);
     let mut least = 0;
     for entry in entries(job) {
-        let lock = locks && entry.kind == 1 && (0xf80..ROWS as u32).contains(&entry.row);
-        if (entry.row >= 0xf40 && !lock) || entry.row < least {
+        if out_of_place(&entry, version, least) {
             return true;
         }
         least = entry.row + 1;

@@ -9,6 +9,7 @@ use crate::shape::Answer;
 pub mod access;
 pub mod chip;
 pub mod jobs;
+pub mod lead;
 pub mod row;
 pub mod tallies;
 

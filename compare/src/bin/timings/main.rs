@@ -4,6 +4,9 @@
 //! The last is no call but a screen's question, how many bits of a page are burnt: looked up in the state that the library gave
 //! back, beside the page's 64 rows counted in plain Rust.
 //!
+//! Then the library is held to itself: over the lead a byte takes as long at the end of a job as at its beginning, and a whole job in
+//! one chunk with its end not much longer than running it.
+//!
 //! Each call is made on a board of 512 burnt rows, one page of it behind a key that is entered, by Secure but for one read
 //! by the bootloader, and is done. Before it is timed both sides make it once, and answer, state and rows must be the same.
 //! `.ci/timings` builds and runs this.
@@ -23,7 +26,7 @@ type Plain = fn(&mut Work);
 /// A call: its name, how often it can be made on one work, what it needs of the work, and its two sides.
 struct Timed(&'static str, u32, fn(&mut Work), Library, Plain);
 
-const CALLS: [Timed; 16] = [
+const CALLS: [Timed; 19] = [
     Timed("reset", MANY, as_it_is, work_reset, reset),
     Timed("reset with six keys", MANY, burn_worn_keys, work_reset, reset),
     Timed("read raw", MANY, as_it_is, work_read_raw, read_raw),
@@ -39,6 +42,9 @@ const CALLS: [Timed; 16] = [
     Timed("enter a key", MANY, as_it_is, work_enter_key, enter_key),
     Timed("run a job of 512", ONCE, blank_rows, work_run_job, run_job),
     Timed("rehearse 2,700 pulses", ONCE, blank_rows, work_rehearse, rehearse),
+    Timed("take a job in a chunk", MANY, as_it_is, work_take_chunk, take_chunk),
+    Timed("take 100 bytes singly", MANY, head_taken, work_take_bytes, take_bytes),
+    Timed("end a job of 512", ONCE, all_taken, work_end_job, end_job),
     Timed("bits burnt in a page", MANY, as_it_is, work_bits_burnt, bits_burnt),
 ];
 
@@ -48,10 +54,31 @@ const SHAPES: [(&str, Library); 2] = [
     ("the shape of a write", work_write_shape),
 ];
 
+/// What a call needs of the work, and the library's side of it.
+type Side = (fn(&mut Work), Library);
+
+/// What is held to what: its name, how often it can be made on one work, and both.
+const HELD: [(&str, u32, Side, Side); 2] = [
+    (
+        "last 100 bytes to first",
+        MANY,
+        (most_taken, work_take_bytes),
+        (head_taken, work_take_bytes),
+    ),
+    (
+        "chunk and end to a job",
+        ONCE,
+        (blank_rows, work_send_job),
+        (blank_rows, work_run_job),
+    ),
+];
+
 /// One call for each page, so that each advance advances.
 const MANY: u32 = 64;
 /// A job is burnt once, and then needs a fresh board.
 const ONCE: u32 = 1;
+/// How often two sides take turns.
+const TURNS: u32 = 10;
 
 fn as_it_is(_: &mut Work) {}
 
@@ -108,6 +135,19 @@ fn empty_time(work: &Work, calls: u32) -> f64 {
     best(as_it_is, work, calls)
 }
 
+/// The times of two sides, taken by turns, so that a machine that slows down slows both.
+fn side_times(board: &Work, sides: [Side; 2], calls: u32) -> [f64; 2] {
+    let time = |(prepare, call): Side| {
+        let mut work = board.clone();
+        prepare(&mut work);
+        library_time(call, &work, calls)
+    };
+    let turns = (0..TURNS).map(|_| sides.map(time));
+    turns.fold([f64::MAX; 2], |[this, that], turn| {
+        [this.min(turn[0]), that.min(turn[1])]
+    })
+}
+
 /// Whether both sides do the same, and are done.
 fn same(library: Library, plain: Plain, work: &Work) -> bool {
     let (mut ours, mut theirs) = (work.clone(), work.clone());
@@ -133,5 +173,14 @@ fn main() -> ExitCode {
     for (name, shape) in SHAPES {
         println!("{name:<22} {:>11.1}", library_time(shape, &board, MANY));
     }
+    print_held(&board);
     ExitCode::SUCCESS
+}
+
+fn print_held(board: &Work) {
+    println!("\nover the lead              this ns     that ns    ratio");
+    for (name, calls, this, that) in HELD {
+        let [this, that] = side_times(board, [this, that], calls);
+        println!("{name:<23} {this:>10.1} {that:>11.1} {:>8.2}", this / that);
+    }
 }

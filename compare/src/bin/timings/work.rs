@@ -1,7 +1,7 @@
 //! What the timed calls are made on, and the calls on both sides.
 
-use compare::plain::{access, chip, jobs, row, tallies};
-use compare::shape::{Answer, State, ROWS, SECURE};
+use compare::plain::{access, chip, jobs, lead, row, tallies};
+use compare::shape::{Answer, Note, State, AREA, ROWS, SECURE};
 
 const ENTRIES: usize = 512;
 const JOB: usize = 7 + 6 * ENTRIES;
@@ -9,6 +9,8 @@ const JOB: usize = 7 + 6 * ENTRIES;
 const KEYED_PAGE: usize = 20;
 /// A row of that page that the job burns.
 pub const KEYED_ROW: u32 = 1281;
+/// How many bytes are taken one by one.
+const SINGLE: usize = 100;
 const FIRST_KEY_ROW: usize = 0xf48;
 const FIRST_VALID_ROW: usize = 0xf79;
 const VOTED_1: u32 = 0x010101;
@@ -20,6 +22,9 @@ pub struct Work {
     pub rows: [u32; ROWS],
     pub job: [u8; JOB],
     pub key: [u8; 16],
+    pub area: [u8; AREA],
+    pub note: Note,
+    pub noted: Note,
     pub caller: u32,
     pub row: u32,
     pub count: u32,
@@ -35,6 +40,7 @@ pub struct Work {
 extern "C" {
     pub fn work_read_shape(work: &mut Work);
     pub fn work_write_shape(work: &mut Work);
+    pub fn work_send_job(work: &mut Work);
 }
 
 /// Makes the two sides of each call: the library's is a function of compare/work.c.
@@ -62,7 +68,50 @@ sides! {
     work_enter_key, enter_key(w) => chip::enter_key(&mut w.state, w.caller, &w.key);
     work_run_job, run_job(w) => jobs::run_job(&mut w.rows, &mut w.state, &w.job);
     work_rehearse, rehearse(w) => jobs::rehearse(&mut w.rows, &mut w.state, &w.job, w.limit);
+    work_take_chunk, take_chunk(w) => take_rest(w);
+    work_take_bytes, take_bytes(w) => take_singly(w);
+    work_end_job, end_job(w) => lead::end_job(&mut w.rows, &mut w.state, &w.area, &w.note);
     work_bits_burnt, bits_burnt(w) => tallies::count_page(&w.rows, w.page);
+}
+
+/// What is left of the job, in one chunk.
+fn take_rest(work: &mut Work) -> Answer {
+    work.noted = work.note;
+    let counted = work.note.counted as usize;
+    lead::take_chunk(&mut work.area, &mut work.noted, &work.job[counted..])
+}
+
+/// The next bytes of the job, one by one.
+fn take_singly(work: &mut Work) -> Answer {
+    work.noted = work.note;
+    let mut answer = Answer::default();
+    for _ in 0..SINGLE {
+        let byte = work.noted.counted as usize;
+        answer = lead::take_chunk(&mut work.area, &mut work.noted, &work.job[byte..=byte]);
+    }
+    answer
+}
+
+/// So many bytes of the job are taken before.
+fn taken(work: &mut Work, count: usize) {
+    work.note = Note::default();
+    lead::take_chunk(&mut work.area, &mut work.note, &work.job[..count]);
+}
+
+/// The head is taken: the first entry's bytes come next.
+pub fn head_taken(work: &mut Work) {
+    taken(work, 7);
+}
+
+/// All is taken but the last bytes.
+pub fn most_taken(work: &mut Work) {
+    taken(work, JOB - SINGLE);
+}
+
+/// The whole job is taken, and its rows are blank.
+pub fn all_taken(work: &mut Work) {
+    taken(work, JOB);
+    work.rows.fill(0);
 }
 
 /// Every seventh row, ECC, with values that spread over the 16 bits.
@@ -82,6 +131,9 @@ pub fn board() -> Work {
         rows: [0; ROWS],
         job: job(),
         key: *b"sixteen byte key",
+        area: [0; AREA],
+        note: Note::default(),
+        noted: Note::default(),
         caller: SECURE,
         row: 7,
         count: 8,
