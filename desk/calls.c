@@ -1,78 +1,20 @@
 /* Calls made by chance on libotp.a, so that two builds of it can be compared: one source, one seed, the same lines on every machine.
 
    Sequences of calls on one chip, with the state carried on: rows, keys and locks are burnt by the calls themselves and wear, and now and
-   then an entry, a state or an argument is put in that no chip would have. A checksum goes on over every answer, state and row. It is
-   printed every EVERY calls, so two outputs part within as many calls of where the builds do. At the end comes the tally of tally.h.
-   Compile with -DEVERY=1 to see the very call. */
+   then an entry, a state, a note or an argument is put in that no chip would have. Some jobs come in chunks, cut anywhere. A checksum goes on
+   over every answer, state and row, and over every note and area of a chunk or an end. It is printed every EVERY calls, so two outputs part
+   within as many calls of where the builds do. At the end comes the tally of tally.h. Compile with -DEVERY=1 to see the very call. */
 #include "chance.h"
+#include "kept.h"
 #include "otp.h"
-#include "tally.h"
 
-#include <stdio.h>
 #include <string.h>
 
 #ifndef CALLS
-#define CALLS 100000
+#define CALLS 140000
 #endif
-#ifndef EVERY
-#define EVERY 1000
-#endif
-
-/* Entries past the rows, which no call may change. */
-enum { PAST = 8 };
-
-/* The chip: its rows and a few entries past them, its state, and the last answer. */
-static uint32_t rows[OTP_ROWS + PAST];
-static otp_state state;
-static otp_answer answer;
 
 static uint8_t key[OTP_KEY_BYTES];
-static uint32_t made, checksum = 2166136261u;
-
-/* The checksum, taken on by a number or by the bytes of a struct, which have no gaps. */
-static void sum(uint32_t number)
-{
-    checksum = (checksum ^ number) * 16777619u;
-    checksum ^= checksum >> 15;
-}
-
-static void sum_bytes(const void *bytes, size_t size)
-{
-    for (size_t i = 0; i < size; i++)
-        sum(((const uint8_t *)bytes)[i]);
-}
-
-static void sum_rows(void)
-{
-    for (uint32_t row = 0; row < OTP_ROWS + PAST; row++)
-        sum(rows[row]);
-}
-
-/* Takes on all that a call left. */
-static void took(uint32_t kind, uint32_t caller)
-{
-    sum(kind);
-    sum_bytes(&answer, sizeof answer);
-    sum_bytes(&state, sizeof state);
-    sum_rows();
-    tally(kind, caller, &answer);
-    if (++made % EVERY == 0)
-        printf("%6u calls, checksum %08x\n", (unsigned)made, (unsigned)checksum);
-}
-
-static void keep(uint32_t kind, uint32_t caller, otp_outcome outcome)
-{
-    tally_pages(kind, &outcome.answer, state.tallies, outcome.state.tallies);
-    answer = outcome.answer;
-    state = outcome.state;
-    took(kind, caller);
-}
-
-static void keep_answer(uint32_t kind, uint32_t caller, otp_answer given)
-{
-    answer = given;
-    took(kind, caller);
-}
 
 /* Enters the key that is burnt, or one like it. */
 static void enter_some_key(void)
@@ -130,6 +72,34 @@ static void some_run(void)
         keep(REHEARSE, NO_CALLER, otp_rehearse(rows, length, state, job, bytes, once_in(4) ? EDGE(0, 1, 0xffffffff) : below(200)));
 }
 
+/* A whole job, cut anywhere, and its end. */
+static void send_job(void)
+{
+    otp_note fresh = OTP_START;
+    uint32_t bytes = some_job(), at = 0;
+    uint64_t lent = some_lent();
+    note = fresh;
+    while (at < bytes) {
+        uint32_t piece = some_piece(bytes - at);
+        keep_taken(otp_take_chunk(area, lent, note, job + at, piece));
+        at += piece;
+    }
+    keep(END_JOB, NO_CALLER, otp_end_job(rows, some_length(), state, area, lent, note));
+}
+
+/* Some bytes of a job onto any note, and perhaps onto any area, and perhaps its end. */
+static void any_chunk(void)
+{
+    uint64_t lent = some_lent();
+    note = some_note();
+    if (once_in(8))
+        fill(area, sizeof area);
+    uint32_t at = note.counted < sizeof job ? note.counted : 0;
+    keep_taken(otp_take_chunk(area, lent, note, job + at, some_piece(sizeof job - at)));
+    if (once_in(4))
+        keep(END_JOB, NO_CALLER, otp_end_job(rows, some_length(), state, area, lent, note));
+}
+
 static void some_lock(void)
 {
     uint32_t caller = some_caller(), domain = some_domain(), page = some_page();
@@ -141,7 +111,7 @@ static void some_lock(void)
 
 static void some_call(void)
 {
-    switch (below(16)) {
+    switch (below(18)) {
     case 0:
         keep(RESET, NO_CALLER, otp_reset(rows, some_length(), state));
         break;
@@ -157,9 +127,15 @@ static void some_call(void)
         some_run();
         break;
     case 6:
+        send_job();
+        break;
     case 7:
+        any_chunk();
+        break;
     case 8:
     case 9:
+    case 10:
+    case 11:
         some_write();
         break;
     default:
@@ -172,12 +148,6 @@ static void burn_lock(uint32_t row, uint32_t byte)
 {
     uint32_t worn = once_in(2) ? 1u << below(24) : 0;
     keep(WRITE_RAW, OTP_SECURE, otp_write_raw(rows, OTP_ROWS, state, OTP_SECURE, row, byte * 0x010101 & ~worn));
-}
-
-static void fill(void *bytes, size_t size)
-{
-    for (size_t i = 0; i < size; i++)
-        ((uint8_t *)bytes)[i] = (uint8_t)chance();
 }
 
 /* Burns one of the six keys and its valid flag, and registers it for a page. */

@@ -1,4 +1,4 @@
-/* What desk/calls.c leaves to chance: the arguments of a call, and jobs. The same on every machine. */
+/* What desk/calls.c leaves to chance: the arguments of a call, jobs, and the chunks that they come in. The same on every machine. */
 #ifndef CHANCE_H
 #define CHANCE_H
 
@@ -7,7 +7,7 @@
 #include <string.h>
 
 enum { FIRST_KEPT_ROW = 0xf40, FIRST_KEY_ROW = 0xf48, FIRST_VALID_ROW = 0xf79, FIRST_LOCK_ROW = 0xf80 };
-enum { HEAD = 7, ENTRY = 6, MOST_ENTRIES = 513 };
+enum { HEAD = 7, ENTRY = 6, MOST_ENTRIES = 513, MOST_LENT = OTP_AREA_BYTES + 8 };
 
 /* The job that was written last, with room for a byte too many. */
 static uint8_t job[HEAD + ENTRY * MOST_ENTRIES + 1];
@@ -103,6 +103,13 @@ static void lock_up(uint32_t count)
     }
 }
 
+/* Any bytes. */
+static void fill(void *bytes, size_t size)
+{
+    for (size_t i = 0; i < size; i++)
+        ((uint8_t *)bytes)[i] = (uint8_t)chance();
+}
+
 /* Flips one bit of some bytes. */
 static void flip(uint8_t *bytes, uint32_t count)
 {
@@ -142,6 +149,27 @@ static uint32_t some_job(void)
     if (once_in(3))
         lock_up(count);
     return once_in(3) ? spoil(length, count) : length;
+}
+
+/* How much of an area is lent: too little, just enough, or more. */
+static uint64_t some_lent(void) { return once_in(12) ? EDGE(0, HEAD, OTP_AREA_BYTES - 1) : EDGE(OTP_AREA_BYTES, OTP_AREA_BYTES + 1, MOST_LENT); }
+
+/* The length of a chunk, of so many bytes that are left: all of them, or a few. */
+static uint32_t some_piece(uint32_t left)
+{
+    uint32_t few = once_in(2) ? EDGE(0, 1, ENTRY - 1, ENTRY, HEAD) : below(40);
+    return few > left || once_in(4) ? left : few;
+}
+
+/* Any note, which may be one that no chunk gives. */
+static otp_note some_note(void)
+{
+    otp_note any;
+    any.counted = once_in(2) ? below(80) : EDGE(OTP_AREA_BYTES - 1, OTP_AREA_BYTES, OTP_AREA_BYTES + 1, OTP_AREA_BYTES + 2, 0xffffffff);
+    any.least = once_in(2) ? below(OTP_ROWS) : EDGE(0, FIRST_KEPT_ROW, FIRST_LOCK_ROW, FIRST_LOCK_ROW + 1, OTP_ROWS, 0xffffffff);
+    for (uint32_t i = 0; i < sizeof any.part; i++)
+        any.part[i] = (uint8_t)(once_in(2) ? below(2) : chance());
+    return any;
 }
 
 #endif

@@ -1,7 +1,9 @@
 /* The instructions and the most stack that each call of libotp.a takes on a core of the desk, for docs/TIMINGS.md. Both are measured: the
    emulator counts the instructions, and the call is made once more on a stack of its own that was painted before. Each call is made by
    Secure, but for one read by the bootloader, and is done (number 0). What C does to pass the state and to take it back is part of the call.
-   The last two are no calls: how a screen comes by the bits burnt in a page of the board, with the tallies and without.
+   The job of 512 comes in one chunk too, which its end follows; and of its bytes one by one, in a hundred calls, the first hundred of its
+   entries and the last hundred of all. The last two are no calls: how a screen comes by the bits burnt in a page of the board, with the
+   tallies and without.
 
    The board: 512 rows burnt by a job, key 1 burnt and valid, one page behind it, and the key entered. The full chip: every row below
    0xf40 burnt, all six keys whole with a bit of each row worn away, every page locked and registered. */
@@ -13,7 +15,9 @@
 
 enum {
     ENTRIES = 512,
-    JOB = 7 + 6 * ENTRIES,
+    HEAD = 7,
+    JOB = HEAD + 6 * ENTRIES,
+    HUNDRED = 100,
     HALF_THE_PULSES = 2700,
     KEYED_PAGE = 20,
     KEYED_ROW = 1281,
@@ -26,8 +30,9 @@ enum {
 
 static const uint32_t blank[OTP_ROWS];
 static uint32_t board[OTP_ROWS], full[OTP_ROWS], rows[OTP_ROWS];
-static uint8_t job[JOB], key[OTP_KEY_BYTES];
+static uint8_t job[JOB], area[OTP_AREA_BYTES], key[OTP_KEY_BYTES];
 static otp_state board_state, state;
+static otp_note note;
 static otp_answer answer;
 
 /* Keeps what an outcome holds, as a firmware would. */
@@ -53,6 +58,28 @@ static void enter_key(void) { KEEP(otp_enter_key(state, OTP_SECURE, key, OTP_KEY
 static void run_job(void) { KEEP(otp_run_job(rows, OTP_ROWS, state, job, JOB)); }
 static void rehearse(void) { KEEP(otp_rehearse(rows, OTP_ROWS, state, job, JOB, HALF_THE_PULSES)); }
 
+/* Takes the bytes of the job that come next, as one chunk. */
+static void take(uint32_t bytes)
+{
+    otp_taken made = otp_take_chunk(area, sizeof area, note, job + note.counted, bytes);
+    answer = made.answer;
+    note = made.note;
+}
+
+static void take_job(void) { take(JOB); }
+static void end_job(void) { KEEP(otp_end_job(rows, OTP_ROWS, state, area, sizeof area, note)); }
+
+static void take_and_end(void)
+{
+    take_job();
+    end_job();
+}
+
+static void take_hundred(void)
+{
+    for (uint32_t i = 0; i < HUNDRED; i++)
+        take(1);
+}
 
 /* A screen's question, how many bits of a page are burnt: looked up, and as it would be counted without tallies. */
 static void burnt(uint32_t bits)
@@ -71,38 +98,45 @@ static void count(void)
     burnt(bits);
 }
 
+/* Each call, the chip that it is made on, and how many bytes of the job were taken before. */
 static const struct {
     const char *name;
     void (*call)(void);
     const uint32_t *chip;
+    uint32_t taken;
 } calls[] = {
-    {"reset of a blank chip", reset, blank},
-    {"reset of a full chip", reset, full},
-    {"read raw", read_raw, board},
-    {"read raw as bootloader", read_as_bootloader, board},
-    {"read ECC", read_ecc, board},
-    {"read ECC behind a key", read_keyed, board},
-    {"read a vote of 3", read_vote_3, board},
-    {"read a vote of 8", read_vote_8, board},
-    {"write raw", write_raw, board},
-    {"write ECC", write_ecc, board},
-    {"advance a lock", advance, board},
-    {"show a lock", show, board},
-    {"enter a key", enter_key, board},
-    {"run a job of 512", run_job, blank},
-    {"rehearse 2,700 pulses", rehearse, blank},
-    {"bits burnt, looked up", look_up, board},
-    {"bits burnt, counted", count, board},
+    {"reset of a blank chip", reset, blank, 0},
+    {"reset of a full chip", reset, full, 0},
+    {"read raw", read_raw, board, 0},
+    {"read raw as bootloader", read_as_bootloader, board, 0},
+    {"read ECC", read_ecc, board, 0},
+    {"read ECC behind a key", read_keyed, board, 0},
+    {"read a vote of 3", read_vote_3, board, 0},
+    {"read a vote of 8", read_vote_8, board, 0},
+    {"write raw", write_raw, board, 0},
+    {"write ECC", write_ecc, board, 0},
+    {"advance a lock", advance, board, 0},
+    {"show a lock", show, board, 0},
+    {"enter a key", enter_key, board, 0},
+    {"run a job of 512", run_job, blank, 0},
+    {"rehearse 2,700 pulses", rehearse, blank, 0},
+    {"take a job as one chunk", take_job, blank, 0},
+    {"end a job of 512", end_job, blank, JOB},
+    {"take and end a job", take_and_end, blank, 0},
+    {"first 100 entry bytes", take_hundred, blank, HEAD},
+    {"last 100 of 3,079 bytes", take_hundred, blank, JOB - HUNDRED},
+    {"bits burnt, looked up", look_up, board, 0},
+    {"bits burnt, counted", count, board, 0},
 };
 
 /* Every seventh row, ECC, with values that spread over the 16 bits. */
 static void write_job(void)
 {
-    memcpy(job, "\x4f\x54\x4a\x01\x00\x00\x02", 7);
+    memcpy(job, "\x4f\x54\x4a\x01\x00\x00\x02", HEAD);
     for (uint32_t i = 0; i < ENTRIES; i++) {
         uint32_t row = 7 * i, value = 129 * i;
         uint8_t entry[6] = {(uint8_t)row, (uint8_t)(row >> 8), 0, (uint8_t)value, (uint8_t)(value >> 8), 0};
-        memcpy(job + 7 + 6 * i, entry, sizeof entry);
+        memcpy(job + HEAD + 6 * i, entry, sizeof entry);
     }
 }
 
@@ -163,10 +197,13 @@ static void make_full(void)
     memcpy(full, rows, sizeof rows);
 }
 
-static void prepare(const uint32_t *chip)
+static void prepare(const uint32_t *chip, uint32_t taken)
 {
+    otp_note fresh = OTP_START;
     memcpy(rows, chip, sizeof rows);
     state = board_state;
+    note = fresh;
+    take(taken);
     answer.number = OTP_REFUSED_ARGUMENT;
 }
 
@@ -188,13 +225,13 @@ int main(void)
     make_full();
     printf("call                     instructions   bytes of stack\n");
     for (size_t i = 0; i < sizeof calls / sizeof calls[0]; i++) {
-        prepare(calls[i].chip);
+        prepare(calls[i].chip, calls[i].taken);
         uint32_t took = instructions(calls[i].call);
         if (answer.number != OTP_DONE) {
             printf("%s was refused with %u\n", calls[i].name, (unsigned)answer.number);
             return 1;
         }
-        prepare(calls[i].chip);
+        prepare(calls[i].chip, calls[i].taken);
         uint32_t stack = stack_used(calls[i].call);
         if (stack == STACK) {
             printf("%s takes all of the stack that it is measured on\n", calls[i].name);

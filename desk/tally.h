@@ -1,6 +1,6 @@
 /* What desk/calls.c counts: how often each call gave each number, how often each caller was done and was refused with 7, how often an ECC
-   read said each condition, and how often a call that burns raised a page's tally, held one to a full page, or brought one down. One that can
-   be given and never was is an error, and so is a number that the call cannot give. */
+   read said each condition and a chunk each early word, and how often a call that burns raised a page's tally, held one to a full page, or
+   brought one down. One that can be given and never was is an error, and so is a number or a word that the call cannot give. */
 #ifndef TALLY_H
 #define TALLY_H
 
@@ -9,7 +9,8 @@
 #include <stdio.h>
 #include <string.h>
 
-enum { RESET, READ_RAW, READ_ECC, READ_VOTE, WRITE_RAW, WRITE_ECC, ADVANCE, SHOW, ENTER_KEY, RUN_JOB, REHEARSE, KINDS, NUMBERS = 12 };
+enum { RESET, READ_RAW, READ_ECC, READ_VOTE, WRITE_RAW, WRITE_ECC, ADVANCE, SHOW, ENTER_KEY, RUN_JOB, REHEARSE, TAKE_CHUNK, END_JOB, KINDS };
+enum { NUMBERS = 13 };
 
 /* Secure, Non-secure and the bootloader. A call that takes no caller is made by none of them. */
 enum { CALLERS = 3, NO_CALLER = CALLERS };
@@ -30,6 +31,8 @@ static const struct {
     {"enter key", "047", {"0", "7", "7"}},
     {"run job", "01ab739", {"", "", ""}},
     {"rehearse", "01ab739", {"", "", ""}},
+    {"take chunk", "0c", {"", "", ""}},
+    {"end job", "01cab739", {"", "", ""}},
 };
 
 /* What a done ECC read can say of its row. A row with a worn flag is never inverted. */
@@ -46,17 +49,33 @@ static const struct {
 };
 enum { CONDITIONS = sizeof conditions / sizeof conditions[0] };
 
-static uint32_t gave[KINDS][NUMBERS], gave_to[CALLERS][KINDS][NUMBERS], said[CONDITIONS];
+/* The early words of a done chunk. */
+static const uint32_t words[] = {0, OTP_REFUSED_JOB, OTP_REFUSED_ORDER};
+enum { WORDS = sizeof words / sizeof words[0] };
+
+static uint32_t gave[KINDS][NUMBERS], gave_to[CALLERS][KINDS][NUMBERS], said[CONDITIONS], warned[WORDS];
+
+static void tally_condition(const otp_answer *answer)
+{
+    for (uint32_t i = 0; i < CONDITIONS; i++)
+        said[i] += answer->condition == conditions[i].condition && answer->polarity == conditions[i].polarity;
+}
+
+static void tally_word(const otp_answer *answer)
+{
+    for (uint32_t i = 0; i < WORDS; i++)
+        warned[i] += answer->value == words[i];
+}
 
 static void tally(uint32_t kind, uint32_t caller, const otp_answer *answer)
 {
     gave[kind][answer->number % NUMBERS]++;
     if (caller < CALLERS)
         gave_to[caller][kind][answer->number % NUMBERS]++;
-    if (kind != READ_ECC || answer->number != OTP_DONE)
-        return;
-    for (uint32_t i = 0; i < CONDITIONS; i++)
-        said[i] += answer->condition == conditions[i].condition && answer->polarity == conditions[i].polarity;
+    if (kind == READ_ECC && answer->number == OTP_DONE)
+        tally_condition(answer);
+    if (kind == TAKE_CHUNK && answer->number == OTP_DONE)
+        tally_word(answer);
 }
 
 /* What a call that burns can do to the tally of a page: raise it by the bits that are new, hold it to a full page where they are too many, or
@@ -65,7 +84,10 @@ enum { RAISED, HELD, LOWERED, CHANGES };
 static const char *const changes[CHANGES] = {"raised", "held to 1536", "brought down"};
 static uint32_t changed[KINDS][CHANGES];
 
-static bool burns(uint32_t kind) { return kind == WRITE_RAW || kind == WRITE_ECC || kind == RUN_JOB || kind == REHEARSE; }
+static bool burns(uint32_t kind)
+{
+    return kind == WRITE_RAW || kind == WRITE_ECC || kind == RUN_JOB || kind == REHEARSE || kind == END_JOB;
+}
 
 /* Counts what a call did. Where no tally came down and all together went up by less than the pulses, some page was held. */
 static void tally_pages(uint32_t kind, const otp_answer *answer, const uint16_t *before, const uint16_t *after)
@@ -101,7 +123,7 @@ static bool told_numbers(uint32_t kind)
     bool all = true;
     printf("%-10s", kinds[kind].name);
     for (uint32_t number = 0; number < NUMBERS; number++) {
-        bool can = strchr(kinds[kind].numbers, "0123456789ab"[number]) != NULL;
+        bool can = strchr(kinds[kind].numbers, "0123456789abc"[number]) != NULL;
         printf(" %5u", (unsigned)gave[kind][number]);
         all = all && can == (gave[kind][number] != 0);
     }
@@ -131,6 +153,21 @@ static bool told_condition(uint32_t i)
     return said[i] != 0;
 }
 
+/* How often a chunk said each early word, and whether it said all of them and no other. */
+static bool told_words(void)
+{
+    bool all = true;
+    uint32_t done = 0;
+    printf("early word");
+    for (uint32_t i = 0; i < WORDS; i++) {
+        printf("   %2u: %5u", (unsigned)words[i], (unsigned)warned[i]);
+        all = all && warned[i] != 0;
+        done += warned[i];
+    }
+    printf("\n");
+    return all && done == gave[TAKE_CHUNK][OTP_DONE];
+}
+
 static bool all_told(void)
 {
     bool all = true;
@@ -140,10 +177,11 @@ static bool all_told(void)
         all = told_callers(kind) && all;
     for (uint32_t i = 0; i < CONDITIONS; i++)
         all = told_condition(i) && all;
+    all = told_words() && all;
     for (uint32_t kind = 0; kind < KINDS; kind++)
         all = (!burns(kind) || told_changes(kind)) && all;
     if (!all)
-        printf("a call never gave a number or a condition that it can give, never changed a tally as it can, or gave a number that it cannot\n");
+        printf("a call never gave a number, a condition or a word that it can give, never changed a tally as it can, or gave what it cannot\n");
     return all;
 }
 
