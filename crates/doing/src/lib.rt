@@ -1,7 +1,4 @@
 // The verbs that do: what they burn, they burn into a copy, and what they write is a new file.
-mod against;
-mod changes;
-mod locks;
 pub mod rehearse;
 mod text_errors;
 pub mod write;

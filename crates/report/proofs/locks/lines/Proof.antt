@@ -1,8 +1,8 @@
--- `doing::locks::lines` is safe and ends: each turn takes one entry. Assumes nothing.
+-- `report::locks::lines` is safe and ends: each turn takes one entry. Assumes nothing.
 use Prim.Native.Nat.{_-_}
 use borrow.Author.Needs.{needs}
-use Rattle.doing.proofs.locks.lines.Statement.{statement}
-use Rattle.doing.proofs.locks.lines.Tie as tie
+use Rattle.report.proofs.locks.lines.Statement.{statement}
+use Rattle.report.proofs.locks.lines.Tie as tie
 
 abbrev Inv-loop : tie.InvT-loop
 Inv-loop after job first count place₀ place = Unit

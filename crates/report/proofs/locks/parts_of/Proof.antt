@@ -1,8 +1,8 @@
--- `doing::locks::parts_of` is safe and ends: each turn takes one entry. Assumes nothing.
+-- `report::locks::parts_of` is safe and ends: each turn takes one entry. Assumes nothing.
 use Prim.Native.Nat.{_-_}
 use borrow.Author.Needs.{needs}
-use Rattle.doing.proofs.locks.parts_of.Statement.{statement}
-use Rattle.doing.proofs.locks.parts_of.Tie as tie
+use Rattle.report.proofs.locks.parts_of.Statement.{statement}
+use Rattle.report.proofs.locks.parts_of.Tie as tie
 
 abbrev Inv-loop : tie.InvT-loop
 Inv-loop before job parts₀ count place₀ parts place = Unit

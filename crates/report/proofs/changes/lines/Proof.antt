@@ -1,8 +1,8 @@
--- `doing::changes::lines` is safe and ends: each turn takes one entry. Assumes nothing.
+-- `report::changes::lines` is safe and ends: each turn takes one entry. Assumes nothing.
 use Prim.Native.Nat.{_-_}
 use borrow.Author.Needs.{needs}
-use Rattle.doing.proofs.changes.lines.Statement.{statement}
-use Rattle.doing.proofs.changes.lines.Tie as tie
+use Rattle.report.proofs.changes.lines.Statement.{statement}
+use Rattle.report.proofs.changes.lines.Tie as tie
 
 abbrev Inv-loop : tie.InvT-loop
 Inv-loop before after job count place₀ place = Unit
