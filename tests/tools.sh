@@ -1,6 +1,6 @@
 # shellcheck shell=sh
-# What the shell of each session begins with: how images and jobs are made, those that several sessions make, a count of what is burnt in one, and
-# how a long or odd name is shown.
+# What the shell of each session begins with: how images and jobs are made, those that several sessions make, a count of what is burnt in one, a
+# slow writer, and how a long or odd name is shown.
 
 # Puts these words into an image, one to a row, from a row on: rows flags.img 0x0c0 0x060140 0x060040
 rows() {
@@ -138,6 +138,16 @@ counted() {
             for (i = 0; i < 8; i++) bar = bar (n >= 192 * i + 192 ? "#" : n > 192 * i ? "+" : ".")
             print p, n, bar
         }'
+}
+
+# Writes a file byte by byte, a few milliseconds after each other: slowly card.job
+slowly() {
+    left=$(wc -c <"$1")
+    while [ "$left" -gt 0 ]; do
+        dd bs=1 count=1 2>/dev/null
+        sleep 0.003
+        left=$((left - 1))
+    done <"$1"
 }
 
 # Runs a command, and shows what it says on standard error through a filter: through 'cat -v' ./otp pages "$odd"

@@ -1,5 +1,5 @@
-// The bench crew's command: rehearse a job on an image of a chip, read a row, show the pages, dump or compare images, list worn rows,
-// list or write a job, show the code of a value.
+// The bench crew's command: rehearse a job on an image of a chip or receive one, read a row, show the pages, dump or compare images, list worn
+// rows, list or write a job, show the code of a value.
 // The script ./otp at the root runs it, and turns the last line that it writes into an exit status.
 use console::ended;
 use console::usage;
@@ -14,6 +14,7 @@ use looking::list;
 use looking::wear;
 use reading::pages;
 use reading::read;
+use receiving::receive;
 
 // The page names no file.
 fn help() {
@@ -67,6 +68,10 @@ fn main() {
     let command = word::command();
     if word::is(command, b"rehearse") {
         rehearse::run();
+        return;
+    }
+    if word::is(command, b"receive") {
+        receive::run();
         return;
     }
     if word::is(command, b"write") {

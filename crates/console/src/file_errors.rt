@@ -1,4 +1,4 @@
-// One line on a file that is not what it must be, or that the system refuses.
+// One line on a file that is not what it must be, or that the system refuses, and on standard input.
 use crate::ended;
 use crate::word;
 use screen::print;
@@ -18,6 +18,14 @@ fn other_reason(error: i32) {
     }
     if error == libc::ENOSPC {
         print::line(b"the disk is full");
+        return;
+    }
+    if error == libc::EBADF {
+        print::line(b"it is not open for reading");
+        return;
+    }
+    if error == libc::EIO {
+        print::line(b"the device failed, or is gone");
         return;
     }
     print::line(b"the system refuses it");
@@ -55,7 +63,14 @@ pub fn unread(place: usize, error: i32) {
     ended::file();
 }
 
-// The same, since it cannot be written.
+// The same of standard input.
+pub fn input_unread(error: i32) {
+    print::text(b"otp: standard input cannot be read: ");
+    reason(error);
+    ended::file();
+}
+
+// The same of a file that cannot be written.
 pub fn unwritten(place: usize, error: i32) {
     said(place, b"cannot be written: ");
     reason(error);

@@ -1,8 +1,9 @@
-// Images, jobs and texts as files. Whatever goes wrong is said in one line, and the command has ended. What a file holds is the system's to
-// say: a contract here says only how much of it there is.
+// Images, jobs and texts as files, and standard input. Whatever goes wrong is said in one line, and the command has ended. What a file holds
+// is the system's to say: a contract here says only how much of it there is.
 ghost use Prim.Native.Nat.{_≤_};
 ghost use Rattle.console.specs.Files as spec;
 use crate::ended;
+use crate::file_errors::input_unread;
 use crate::file_errors::said;
 use crate::file_errors::unread;
 use image::rows::rows_of;
@@ -113,4 +114,16 @@ pub fn load_text(place: usize, text: &mut [u8; 65536]) -> Length
         }
         Loaded::Nothing => Length::Not,
     }
+}
+
+// Reads what has come of standard input, and waits where nothing has. At its end that is nothing.
+pub fn read_input(piece: &mut [u8; 4096]) -> Length
+    ensures { λ r. ⌜ spec.Within 4096 r ⌝ }
+{
+    let got = libc::read(libc::STDIN_FILENO, piece);
+    if got < 0 {
+        input_unread(os::errno());
+        return Length::Not;
+    }
+    Length::Is(least(io::count(got, piece), 4096))
 }

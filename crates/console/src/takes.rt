@@ -11,7 +11,8 @@ pub enum Role {
     Other,
 }
 
-// `save` is an option that names a file to write, `replace` one that lets it write over another, `ways` those of `read`.
+// `save` is an option that names a file to write, `replace` one that lets it write over another, `ways` those of `read`. Where a command takes
+// one word, `second` is what standard input is to it.
 pub struct Takes {
     pub first: Role,
     pub second: Role,

@@ -1,7 +1,7 @@
 // The page that `otp help` shows, part by part.
 use screen::print;
 
-fn on_an_image() {
+fn on_jobs() {
     print::line(b"./otp rehearse IMAGE JOB [LIMIT] [--key HEX32] [--save OUT [--replace]]");
     print::line(
         b"    Judges the job, burns it into a copy of the image, and shows what changes, row by row, and how",
@@ -16,6 +16,22 @@ fn on_an_image() {
         b"    Of a version 2 job it says what the next reset latches of each lock row, where the locks begin,",
     );
     print::line(b"    and what a cut after that means.");
+    print::line(b"./otp receive IMAGE [--key HEX32] [--save OUT [--replace]] < JOB");
+    print::line(
+        b"    Takes the job from standard input as its bytes come, in whatever pieces, and at its end answers",
+    );
+    print::line(
+        b"    as rehearse does, without a LIMIT. What will have the job refused with 10 or 11 it says as soon",
+    );
+    print::line(
+        b"    as its byte is there, with the entry, so that the sender can stop: a line on standard error that",
+    );
+    print::line(
+        b"    begins with `early:`, for each of the first eight faults. Nothing is burnt before the end.",
+    );
+}
+
+fn on_an_image() {
     print::line(
         b"./otp read IMAGE ROW [--raw | --vote 3 | --vote 8] [--as CALLER | --non-secure] [--key HEX32]",
     );
@@ -91,6 +107,7 @@ fn on_other_files() {
 
 // All of it.
 pub fn show() {
+    on_jobs();
     on_an_image();
     on_rows_of_an_image();
     on_other_files();

@@ -3,6 +3,7 @@ use crate::refusals::number_and_words;
 use crate::refusals::of_row;
 use form::entries::entry_at;
 use form::faults::Fault;
+use form::faults::fault_number;
 use form::faults::fault_of;
 use screen::print;
 
@@ -60,5 +61,14 @@ fn reason(job: &[u8], fault: Fault, place: u32) {
 pub fn headline(job: &[u8], number: u32, place: u32) {
     number_and_words(number);
     reason(job, fault_of(job), place);
+    print::end();
+}
+
+// What is wrong with a job that is still coming: "early: 10: job bytes malformed: kind above 1, entry 1, row 0x0c4". The script ./otp knows
+// such a line by its first word, and shows it at once.
+pub fn early(job: &[u8], fault: Fault) {
+    print::text(b"early: ");
+    number_and_words(fault_number(fault));
+    reason(job, fault, 0);
     print::end();
 }
