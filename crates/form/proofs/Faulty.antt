@@ -18,10 +18,10 @@ use Rattle.form.specs.declared.faults.Fault.{Fault}
 use Rattle.form.specs.declared.faults.Fault.the-variants.{Sound, Short, Mark, Version, Count, Length, Kind, Value, High, Kept, Past, Coded, Late, Order}
 use Rattle.form.proofs.Upward.{next-left}
 
-fault-stops : (fault next : Fault) → (faultNumber fault ≡ 0 → ⊥) → (fault otherwise next) ≡ fault
+pub fault-stops : (fault next : Fault) → (faultNumber fault ≡ 0 → ⊥) → (fault otherwise next) ≡ fault
 fault-stops fault next some = rw (ne-eqb (faultNumber fault) 0 some)
 
-fault-next : (fault next : Fault) → faultNumber fault ≡ 0 → (fault otherwise next) ≡ next
+pub fault-next : (fault next : Fault) → faultNumber fault ≡ 0 → (fault otherwise next) ≡ next
 fault-next fault next none = rw (eq-eqb (faultNumber fault) 0 none)
 
 -- the entries that are left: the next one's fault, or what the others have

@@ -30,6 +30,10 @@ ended-grows count a b h =
     let more : (a - 7) / 6 ≤ (b - 7) / 6 = omega arith in
     omega (arith, more)
 
+-- more than some is at least one
+pub grown : (m n : ℕ) → m ≤ n → (m ≡ n → ⊥) → 1 ≤ n
+grown m n more other = omega (arith, more, other)
+
 -- a chunk stops where it starts or later
 pub stop-later : (note : Note) (chunk : List ℕ) → startOf note ≤ stopOf note chunk
 stop-later note chunk = omega arith

@@ -5,21 +5,15 @@ use mathlib.Core.Bool.{Bool, true, false}
 use mathlib.Core.List.{List}
 use Prim.Native.Nat.{ℕ, _+_, _-_, _≤_, _<_}
 use native.Mathlib.Omega.{arith}
-use borrow.Author.Tests.{eq-eqb, ne-eqb}
 use lib.Dec.{eqb}
 use Rattle.answer.specs.Choice.{if_then_else_}
 use Rattle.form.specs.Entries.{entryAt, entriesFrom}
 use Rattle.form.specs.Faults.{faultNumber, _otherwise_, formFault, rowFault}
 use Rattle.form.specs.declared.faults.Fault.{Fault}
 use Rattle.form.specs.declared.faults.Fault.the-variants.{Sound}
+use Rattle.form.proofs.Faulty.{fault-stops, fault-next}
 use Rattle.form.proofs.Upward.{next-left}
 use Rattle.lead.specs.Early.{entryFaults}
-
-pub fault-stops : (fault next : Fault) → (faultNumber fault ≡ 0 → ⊥) → (fault otherwise next) ≡ fault
-fault-stops fault next some = rw (ne-eqb (faultNumber fault) 0 some)
-
-pub fault-next : (fault next : Fault) → faultNumber fault ≡ 0 → (fault otherwise next) ≡ next
-fault-next fault next none = rw (eq-eqb (faultNumber fault) 0 none)
 
 -- two faults before a third
 pub grouped : (a b c : Fault) → (a otherwise b otherwise c) ≡ ((a otherwise b) otherwise c)

@@ -10,7 +10,7 @@ use Rattle.form.specs.Entries.{countOf, entryAt}
 use Rattle.lead.specs.Notes.{startOf, stopOf, endedOf, begunOf, endedIn, begunIn, begunBefore, over, soFar, partFrom, partOf, noted}
 use Rattle.lead.specs.declared.notes.Note.{Note}
 use Rattle.lead.specs.declared.so_far.Begun.{Begun}
-use Rattle.lead.proofs.Counts.{bounded, ended-grows, stop-later, before-fits}
+use Rattle.lead.proofs.Counts.{bounded, ended-grows, grown, stop-later, before-fits}
 use Rattle.lead.proofs.SoFar.{head-else}
 
 module _ (job : List ℕ) (note : Note) (chunk : List ℕ) where
@@ -32,9 +32,6 @@ module _ (job : List ℕ) (note : Note) (chunk : List ℕ) where
 
     pub ended : (endedIn job start ≡ endedIn job stop → ⊥) → noted job note chunk ≡ with (entryAt job (endedIn job stop - 1) .row + 1) (partOf job stop)
     ended other = rw (ne-eqb start stop moved, ne-eqb (endedIn job start) (endedIn job stop) other)
-
-at-least : (a b : ℕ) → a ≤ b → (a ≡ b → ⊥) → 1 ≤ b
-at-least a b low other = omega (arith, low, other)
 
 -- the same, by numbers that were worked out: where the chunk starts and stops
 module _ (note : Note) (chunk : List ℕ) (at to : ℕ) (at-is : at ≡ startOf note) (to-is : to ≡ min (at + length chunk) 3080) where
@@ -91,4 +88,4 @@ module _ (area : List ℕ) (note : Note) (chunk : List ℕ) (room : 3079 ≤ len
   -- an entry ended, so that there is one before
   pub one-before : (begun .index ≡ whole → ⊥) → 1 ≤ whole
   one-before more =
-      at-least (begun .index) whole (rw (index-ended, whole-ended) (ended-grows (countOf file) _ _ (stop-later note chunk))) more
+      grown (begun .index) whole (rw (index-ended, whole-ended) (ended-grows (countOf file) _ _ (stop-later note chunk))) more

@@ -1,23 +1,24 @@
 -- Two files that agree on the bytes that have come: they bring the same to an end.
 -- Assumes nothing.
 use mathlib.Core.Path.{_≡_, refl, sym, ap, _∙_}
-use mathlib.Core.Bool.{Bool, true, false, not, _&&_}
+use mathlib.Core.Bool.{Bool, true, false}
 use mathlib.Core.List.{List}
 use Prim.Native.Nat.{ℕ, zero, suc, _+_, _-_, _*_, _/_, _%_, _≤_, _<_, min}
 use native.Mathlib.Nat.{le-trans}
 use native.Mathlib.Omega.{arith}
 use borrow.Author.Tests.{ltb-true, ltb-false, eqb-false, le-ltb}
-use lib.Dec.{eqb, ltb, leb}
+use lib.Dec.{eqb, ltb}
 use Rattle.answer.specs.Choice.{if_then_else_}
-use Rattle.form.specs.Entries.{byteAt, twoAt, versionOf, countOf, entryAt, entriesFrom}
+use Rattle.form.specs.Entries.{byteAt, versionOf, countOf, entryAt, entriesFrom}
 use Rattle.form.specs.Faults.{_otherwise_}
 use Rattle.form.specs.declared.entries.Entry.{Entry}
 use Rattle.form.specs.declared.faults.Fault.{Fault}
 use Rattle.form.specs.declared.faults.Fault.the-variants.{Sound}
 use Rattle.form.proofs.ReadBack.{entry-alike, head-alike}
-use Rattle.lead.specs.Early.{came, spoils, unknownVersion, largeCount, headBrought, entryFaults, entriesBrought, brought}
+use Rattle.lead.specs.Early.{headBrought, entryFaults, entriesBrought, brought}
 use Rattle.lead.specs.Notes.{endedOf, begunOf, endedIn, begunIn, leastOf}
-use Rattle.lead.proofs.Counts.{bounded, ended-grows}
+use Rattle.lead.proofs.Counts.{bounded, ended-grows, grown}
+use Rattle.lead.proofs.Heads.{head-same}
 
 -- bytes below a place, of those that an area keeps
 abbrev pub Agree : List ℕ → List ℕ → ℕ → Type 0
@@ -45,24 +46,11 @@ begun-below count n i = go (ltb n (7 + 6 * min count 512)) refl
         omega (arith, whole, few)
     go false past few = absurd (omega arith)
 
--- more than some is at least one
-pub grown : (m n : ℕ) → m ≤ n → (m ≡ n → ⊥) → 1 ≤ n
-grown m n more other = omega (arith, more, other)
-
 pub below-last : (k from to : ℕ) → from ≤ k → k < from + (to - from) → k < to
 below-last k from to above below = omega arith
 
 before-last : (n : ℕ) → 1 ≤ n → n - 1 < n
 before-last n some = omega arith
-
--- a test of what came needs only what came
-came-and : (start stop place : ℕ) (t u : Bool) → (place < stop → t ≡ u) → (came start stop place && t) ≡ (came start stop place && u)
-came-and start stop place t u same = go (leb start place) (ltb place stop) refl
-  where
-    go : (l s : Bool) → ltb place stop ≡ s → ((l && s) && t) ≡ ((l && s) && u)
-    go false s is = refl
-    go true false is = refl
-    go true true is = same (ltb-true place stop is)
 
 -- an entry that ended ends below the place
 pub ends-below : (count n i : ℕ) → i < endedOf count n → 7 + 6 * i + 6 ≤ n
@@ -89,43 +77,26 @@ module _ (a b : List ℕ) (stop : ℕ) (low : stop ≤ 3080) (same : Agree a b s
     pub count-same : countOf a ≡ countOf b
     count-same = head-alike a b (λ place h. same place (omega arith) (omega arith)) .2
 
+  -- what goes by the count, and is nothing before the head is over, is the same
+  by-count : (told : ℕ → ℕ → ℕ) → ((count n : ℕ) → n < 7 → told count n ≡ 0) → (n : ℕ) → n ≤ stop → told (countOf a) n ≡ told (countOf b) n
+  by-count told none n within = go (ltb n 7) refl
+    where
+      go : (t : Bool) → ltb n 7 ≡ t → told (countOf a) n ≡ told (countOf b) n
+      go true short =
+          let few = ltb-true n 7 short in
+          none (countOf a) n few ∙ sym (none (countOf b) n few)
+      go false over = ap (λ (count : ℕ). told count n) (count-same (omega (arith, ltb-false n 7 over)))
+
   -- as many entries have ended, and as many bytes are begun
   pub ended-same : (n : ℕ) → n ≤ stop → endedIn a n ≡ endedIn b n
-  ended-same n within = go (ltb n 7) refl
-    where
-      go : (t : Bool) → ltb n 7 ≡ t → endedIn a n ≡ endedIn b n
-      go true short =
-          let few = ltb-true n 7 short in
-          none-ended (countOf a) n few ∙ sym (none-ended (countOf b) n few)
-      go false over = ap (λ (count : ℕ). endedOf count n) (count-same (omega (arith, ltb-false n 7 over)))
+  ended-same = by-count endedOf none-ended
 
   pub begun-same : (n : ℕ) → n ≤ stop → begunIn a n ≡ begunIn b n
-  begun-same n within = go (ltb n 7) refl
-    where
-      go : (t : Bool) → ltb n 7 ≡ t → begunIn a n ≡ begunIn b n
-      go true short =
-          let few = ltb-true n 7 short in
-          none-begun (countOf a) n few ∙ sym (none-begun (countOf b) n few)
-      go false over = ap (λ (count : ℕ). begunOf count n) (count-same (omega (arith, ltb-false n 7 over)))
+  begun-same = by-count begunOf none-begun
 
   module _ (start : ℕ) where
-    mark-same : (place byte : ℕ) → place < 7 → spoils a start stop place byte ≡ spoils b start stop place byte
-    mark-same place byte few = came-and start stop place _ _ (λ below. ap (λ (n : ℕ). not (eqb n byte)) (same place below (omega arith)))
-
-    number-same : (at : ℕ) → at < 6 → at + 1 < stop → twoAt a at ≡ twoAt b at
-    number-same at few below = rw (same at (omega arith) (omega arith), same (at + 1) below (omega arith))
-
-    unknown-same : unknownVersion a start stop ≡ unknownVersion b start stop
-    unknown-same =
-        came-and start stop 4 _ _ (λ below. ap (λ (n : ℕ). not (eqb n (if eqb n 2 then 2 else 1))) (number-same 3 (omega arith) below))
-
-    large-same : largeCount a start stop ≡ largeCount b start stop
-    large-same = came-and start stop 6 _ _ (λ below. ap (ltb 512) (number-same 5 (omega arith) below))
-
-    head-same : headBrought a start stop ≡ headBrought b start stop
-    unfolding headBrought
-    head-same =
-        rw (mark-same 0 0x4f (omega arith), mark-same 1 0x54 (omega arith), mark-same 2 0x4a (omega arith), unknown-same, large-same)
+    heads-same : headBrought a start stop ≡ headBrought b start stop
+    heads-same = head-same a b start stop (λ place few below. same place below (omega arith))
 
     module _ (within : start ≤ stop) (least : ℕ) where
       -- before the head is over nothing but it can be brought to an end
@@ -153,10 +124,10 @@ module _ (a b : List ℕ) (stop : ℕ) (low : stop ≤ 3080) (same : Agree a b s
           go : (t : Bool) → ltb stop 7 ≡ t → brought least a start stop ≡ brought least b start stop
           go true short =
               let few = ltb-true stop 7 short in
-              short-brought a few ∙ ap (λ (f : Fault). f otherwise Sound) head-same ∙ sym (short-brought b few)
+              short-brought a few ∙ ap (λ (f : Fault). f otherwise Sound) heads-same ∙ sym (short-brought b few)
           go false long =
               let over = ltb-false stop 7 long in
-              rw (head-same, entries-same over, count-same over)
+              rw (heads-same, entries-same over, count-same over)
 
       -- and so is the lowest row that may come next
       pub least-same : leastOf least a start stop ≡ leastOf least b start stop

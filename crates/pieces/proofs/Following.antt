@@ -22,12 +22,12 @@ use Rattle.lead.specs.Notes.{startOf, stopOf, stored, begunBefore, Fits, soFar,
 use Rattle.lead.specs.Taking.{Took, takeChunk, tookIn}
 use Rattle.lead.specs.declared.notes.Note.{Note}
 use Rattle.lead.specs.declared.so_far.Begun.{Begun}
-use Rattle.lead.proofs.Counts.{bounded, ended-grows, stop-later, before-fits}
+use Rattle.lead.proofs.Counts.{bounded, ended-grows, grown, stop-later, before-fits}
 use Rattle.lead.proofs.SoFar.{byte-begun, byte-else}
 use Rattle.lead.proofs.Takes.{taken}
 use Rattle.pieces.specs.Pieces.{Kept, begin, after}
 use Rattle.pieces.specs.Words.{leastAt}
-use Rattle.pieces.proofs.Agreeing.{Agree, grown, begun-below, none-ended, none-begun, ended-same, begun-same, brought-same, least-same}
+use Rattle.pieces.proofs.Agreeing.{Agree, begun-below, none-ended, none-begun, ended-same, begun-same, brought-same, least-same}
 
 -- where a count of bytes stands in a note
 abbrev pub counted : ℕ → ℕ

@@ -11,7 +11,6 @@ use lib.Dec.{eqb, ltb}
 use lib.ListN.{length, length-append}
 use Rattle.answer.specs.Rungs.{firstOf}
 use Rattle.answer.proofs.Choices.{both-ways, own-number}
-use Rattle.answer.proofs.Ladders.{never-zero}
 use Rattle.permit.specs.Permission.{mayWrite}
 use Rattle.chip.specs.Slices.{rowAt, tooLarge}
 use Rattle.chip.specs.declared.state.State.{State}
@@ -21,7 +20,7 @@ use Rattle.form.specs.Faults.{faultNumber, headFault, ruleOf, faultOf}
 use Rattle.form.specs.declared.entries.Entry.{Entry}
 use Rattle.form.specs.declared.faults.Fault.{Fault}
 use Rattle.form.specs.declared.faults.Fault.the-variants.{Sound}
-use Rattle.form.proofs.Faulty.{one-of, zero-sound, head-stops}
+use Rattle.form.proofs.Faulty.{one-of, zero-sound}
 use Rattle.judge.specs.Verdicts.{unfit, allRungs, entryRungs, verdictOf}
 use Rattle.job.specs.Jobs.{runJob}
 use Rattle.lead.specs.Early.{brought}
@@ -30,7 +29,7 @@ use Rattle.pieces.specs.Pieces.{joined}
 use Rattle.pieces.specs.Words.{leastAt, wordAfter, endNumber, SomeWord, CutShort, WordIsNotLazy, EntryIsSaid}
 use Rattle.pieces.proofs.Following.{counted}
 use Rattle.pieces.proofs.Joined.{then-joined}
-use Rattle.pieces.proofs.Parts.{head-all, head-not-eleven}
+use Rattle.pieces.proofs.Parts.{bad-head, head-all, head-not-eleven}
 use Rattle.pieces.proofs.Quiet.{SoundTo, nothing-yet, more-sound, entry-quiet, whole-sound}
 use Rattle.pieces.proofs.Truth.{wordExactly, run-number}
 use Rattle.pieces.proofs.Whole.{piecesAreTheFile}
@@ -145,11 +144,8 @@ module _ (rows : List ℕ) (state : State) (file : List ℕ) where
 
   short-ten : CutShort file → faultNumber (faultOf file) ≡ 10
   short-ten short =
-      ⊎-elim (λ sound. absurd (short-head short sound)) (⊎-elim bad-head (λ eleven. absurd (head-not-eleven (ruleOf file) file eleven)))
+      ⊎-elim (λ sound. absurd (short-head short sound)) (⊎-elim (bad-head file) (λ eleven. absurd (head-not-eleven (ruleOf file) file eleven)))
       (one-of (headFault (ruleOf file) file))
-    where
-      bad-head : faultNumber (headFault (ruleOf file) file) ≡ 10 → faultNumber (faultOf file) ≡ 10
-      bad-head is = ap faultNumber (head-stops (ruleOf file) file (λ none. never-zero 9 (sym is ∙ none))) ∙ is
 
   short-number : length rows ≡ 4096 → CutShort file → runJob rows state file .outcome .answer .number ≡ 10
   short-number whole short = run-number rows state file 10 (inl refl) (short-ten short) false (rw (eq-eqb (length rows) 4096 whole))

@@ -1,9 +1,9 @@
 pub mod Agreeing
 pub mod Following
 pub mod Joined
-pub mod Whole
 pub mod InTurn
 pub mod Parts
+pub mod Whole
 pub mod Truth
 pub mod Quiet
 pub mod Lazy

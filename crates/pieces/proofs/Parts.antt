@@ -12,11 +12,11 @@ use Rattle.answer.proofs.Choices.{both-ways}
 use Rattle.answer.proofs.Ladders.{never-zero}
 use Rattle.chip.specs.Pages.{isLockRow}
 use Rattle.form.specs.Entries.{byteAt, versionOf, countOf, entryAt, entriesOf}
-use Rattle.form.specs.Faults.{faultNumber, marked, headFault, formFault, formFaults, orderFault, lockingFault, rowFault}
+use Rattle.form.specs.Faults.{faultNumber, marked, headFault, formFault, formFaults, orderFault, lockingFault, rowFault, ruleOf, faultOf}
 use Rattle.form.specs.declared.entries.Entry.{Entry}
 use Rattle.form.specs.declared.faults.Fault.{Fault}
 use Rattle.form.specs.declared.faults.Fault.the-variants.{Sound, Short, Mark, Version, Count, Length, Kind, Value, High, Kept, Past, Coded, Late, Order}
-use Rattle.form.proofs.Faulty.{head-passed}
+use Rattle.form.proofs.Faulty.{head-passed, head-stops}
 use Rattle.pieces.proofs.InTurn.{none-given, form, forms-turn}
 
 all-three : (a b c : Bool) → (a && b && c) ≡ true → (a ≡ true) × (b ≡ true) × (c ≡ true)
@@ -95,3 +95,7 @@ forms-not-eleven file eleven =
     each k =
         both-ways NotEleven (ltb 1 (entryAt file k .kind)) (Kind k) _ (λ e. omega arith)
         (both-ways NotEleven (eqb (entryAt file k .kind) 0 && ltb 65535 (entryAt file k .value)) (Value k) Sound (λ e. omega arith) (λ e. omega arith))
+
+-- a head that is 10 makes the file 10
+pub bad-head : (file : List ℕ) → faultNumber (headFault (ruleOf file) file) ≡ 10 → faultNumber (faultOf file) ≡ 10
+bad-head file ten = ap faultNumber (head-stops (ruleOf file) file (λ none. never-zero 9 (sym ten ∙ none))) ∙ ten

@@ -18,7 +18,7 @@ use Rattle.form.specs.Entries.{byteAt, versionOf, countOf, entryAt, entriesOf}
 use Rattle.form.specs.Faults.{faultNumber, _otherwise_, headFault, formFaults, orderFaults, ruleOf, faultOf}
 use Rattle.form.specs.declared.faults.Fault.{Fault}
 use Rattle.form.specs.declared.faults.Fault.the-variants.{Sound}
-use Rattle.form.proofs.Faulty.{one-of, head-stops, form-stops-all, head-sound, forms-sound, order-sound}
+use Rattle.form.proofs.Faulty.{one-of, form-stops-all, head-sound, forms-sound, order-sound}
 use Rattle.burn.specs.Burning.{Left}
 use Rattle.judge.specs.Verdicts.{verdictOf}
 use Rattle.job.specs.Jobs.{runJob}
@@ -30,7 +30,7 @@ use Rattle.pieces.proofs.Agreeing.{below-last}
 use Rattle.pieces.proofs.Following.{counted, word-is}
 use Rattle.pieces.proofs.InTurn.{inTurn, each-sound, all-sound, none-given, form, place, both, forms-turn, places-turn, both-turn}
 use Rattle.pieces.proofs.Joined.{chunk-stands, chunk-within, chunk-follows}
-use Rattle.pieces.proofs.Parts.{head-all, row-not-ten, head-not-eleven, forms-not-eleven}
+use Rattle.pieces.proofs.Parts.{bad-head, head-all, row-not-ten, head-not-eleven, forms-not-eleven}
 use Rattle.pieces.proofs.Whole.{piecesAreTheFile}
 
 pub wordExactly : WordExactly
@@ -123,11 +123,8 @@ module _ (file : List ℕ) (start stop : ℕ) (within : start ≤ stop) (low : s
 
   -- a word of 10: the file is malformed
   pub ten-means : word ≡ 10 → faultNumber (faultOf file) ≡ 10
-  ten-means ten = ⊎-elim sound-head (⊎-elim bad-head (λ eleven. absurd (head-not-eleven (ruleOf file) file eleven))) (one-of (headFault (ruleOf file) file))
+  ten-means ten = ⊎-elim sound-head (⊎-elim (bad-head file) (λ eleven. absurd (head-not-eleven (ruleOf file) file eleven))) (one-of (headFault (ruleOf file) file))
     where
-      bad-head : faultNumber (headFault (ruleOf file) file) ≡ 10 → faultNumber (faultOf file) ≡ 10
-      bad-head is = ap faultNumber (head-stops (ruleOf file) file (λ none. never-zero 9 (sym is ∙ none))) ∙ is
-
       sound-head : headFault (ruleOf file) file ≡ Sound → faultNumber (faultOf file) ≡ 10
       sound-head sound =
           let is = ten-said file start stop within low here sound ten in

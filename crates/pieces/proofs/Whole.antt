@@ -10,13 +10,11 @@ use lib.Dec.{eqb, ltb}
 use lib.ListN.{length, take}
 use lib.Seq.{ext-getD, length-take-le, getD-take}
 use Rattle.answer.specs.Choice.{if_then_else_}
-use Rattle.answer.proofs.Ladders.{never-zero}
 use Rattle.chip.specs.declared.state.State.{State}
 use Rattle.burn.specs.Burning.{kept}
 use Rattle.form.specs.Entries.{versionOf, countOf}
 use Rattle.form.specs.Faults.{faultNumber, marked, headFault, ruleOf, faultOf}
 use Rattle.form.specs.declared.faults.Fault.the-variants.{Sound, Mark, Version, Count, Length}
-use Rattle.form.proofs.Faulty.{head-stops}
 use Rattle.judge.specs.Verdicts.{verdictOf}
 use Rattle.job.specs.Jobs.{runJob}
 use Rattle.lead.specs.Ending.{endJob}
@@ -24,6 +22,7 @@ use Rattle.lead.specs.Notes.{noRoom}
 use Rattle.lead.proofs.Ends.{not-whole, too-long, runs}
 use Rattle.pieces.specs.Pieces.{Kept, begin, afterAll, joined, PiecesAreTheFile}
 use Rattle.pieces.proofs.Following.{Follows}
+use Rattle.pieces.proofs.Parts.{bad-head}
 use Rattle.pieces.proofs.Joined.{stands-itself, follow-from-fresh}
 
 -- ---- a file of more than 3,079 bytes
@@ -44,9 +43,7 @@ long-head version file long =
         rw (ne-eqb (length file) (7 + 6 * countOf file) (λ e. omega (arith, e, bound, long)))
 
 pub long-malformed : (file : List ℕ) → 3079 < length file → faultNumber (faultOf file) ≡ 10
-long-malformed file long =
-    let ten = long-head (ruleOf file) file long in
-    ap faultNumber (head-stops (ruleOf file) file (λ none. never-zero 9 (sym ten ∙ none))) ∙ ten
+long-malformed file long = bad-head file (long-head (ruleOf file) file long)
 
 module _ (rows : List ℕ) (state : State) (file : List ℕ) (long : 3079 < length file) where
   long-runs : (t : Bool) → eqb (length rows) 4096 ≡ t → runJob rows state file ≡ kept state rows (if t then 10 else 1) 0

@@ -1,6 +1,5 @@
 -- `lead::notes::start_of` meets its contract: 3,080 for any more.
 -- Assumes nothing.
-use borrow.Author.Needs.{needs}
 use native.Mathlib.Omega.{arith}
 use Rattle.lead.proofs.notes.start_of.Statement.{statement}
 use Rattle.lead.proofs.notes.start_of.Tie as tie
