@@ -22,13 +22,12 @@ versionOf job = twoAt job 3
 abbrev pub countOf : List ℕ → ℕ
 countOf job = twoAt job 5
 
--- then entries: a 16-bit row, a one-byte kind (0 is ECC, 1 is raw), a 24-bit value
+-- then entries of six bytes: a 16-bit row, a one-byte kind (0 is ECC, 1 is raw), a 24-bit value
+abbrev pub entryFrom : List ℕ → ℕ → Entry
+entryFrom job at = record { row = twoAt job at; kind = byteAt job (at + 2); value = threeAt job (at + 3) }
+
 unfoldable pub entryAt : List ℕ → ℕ → Entry
-entryAt job i = record {
-  row = twoAt job (7 + 6 * i);
-  kind = byteAt job (7 + 6 * i + 2);
-  value = threeAt job (7 + 6 * i + 3);
-}
+entryAt job i = entryFrom job (7 + 6 * i)
 
 -- so many entries from one on
 unfoldable pub entriesFrom : List ℕ → ℕ → ℕ → List Entry

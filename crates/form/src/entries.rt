@@ -111,3 +111,13 @@ pub fn entry_at(job: &[u8], i: u32) -> Entry
     }
     cut_entry(job, i)
 }
+
+// The entry that some bytes begin with. A byte that is not there is 0.
+pub fn first_entry(bytes: &[u8]) -> Entry
+    ensures { λ r. ⌜ r ≡ spec.entryFrom (now (bytes .entry)) 0 ⌝ }
+{
+    let row = two_at(bytes, 0);
+    let kind = byte_at(bytes, 2);
+    let value = three_at(bytes, 3);
+    Entry { row, kind, value }
+}
