@@ -222,11 +222,46 @@ static void take_a_job(void)
     expect("the number of the spoilt job", end.answer.number, OTP_REFUSED_JOB);
 }
 
+/* The chip as it is to be, and where the job is made that burns it so. */
+static uint32_t wanted[OTP_ROWS];
+static uint8_t made[OTP_JOB_BYTES];
+
+/* The job that burns the rows into the wanted ones, with each of its entries. */
+static uint64_t make_the_job(uint32_t entries)
+{
+    otp_answer answer = otp_make_job(rows, OTP_ROWS, wanted, OTP_ROWS, made, sizeof made);
+    printf("job made: number %u, %u bytes\n", (unsigned)answer.number, (unsigned)answer.value);
+    expect("the number of the making", answer.number, OTP_DONE);
+    expect("the bytes of the job", answer.value, 7 + 6 * entries);
+    otp_entry entry = otp_next_entry(made, answer.value, 7);
+    for (; entry.number == OTP_DONE && !entry.end; entry = otp_next_entry(made, answer.value, entry.at))
+        printf("  row 0x%03x, kind %u, 0x%06x\n", (unsigned)entry.row, (unsigned)entry.kind, (unsigned)entry.value);
+    expect("the number at the end", entry.number, OTP_DONE);
+    return answer.value;
+}
+
+/* A faded bit of the width is burnt again: the job is made of the rows as they are and as they are to be. A bit that the wanted rows lack is
+   burnt for good, so then no job is made. */
+static void make_a_job(void)
+{
+    otp_state state = blank_chip();
+    rows[ROW] = 0x060100;
+    memcpy(wanted, rows, sizeof wanted);
+    wanted[ROW] = 0x060140;
+    otp_outcome out = otp_run_job(rows, OTP_ROWS, state, made, make_the_job(1));
+    job_came_to("the job made and run", out.answer, 1, 1, wanted[ROW]);
+    wanted[ROW] = 0x060100;
+    otp_answer lost = otp_make_job(rows, OTP_ROWS, wanted, OTP_ROWS, made, sizeof made);
+    printf("the other way round: refused with number %u\n", (unsigned)lost.number);
+    expect("the number of a lost bit", lost.number, OTP_REFUSED_LOST);
+}
+
 int main(void)
 {
     keep_a_width();
     lock_for_the_bootloader();
     run_a_job();
     take_a_job();
+    make_a_job();
     return wrong == 0 ? 0 : 1;
 }

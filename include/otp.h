@@ -31,19 +31,24 @@
  *           before the first chunk does not matter; from then on only otp_take_chunk writes it.
  * note      What has come of such a job, by value. Begin with one of all zeros, `otp_note note = OTP_START;`, and keep the one that each
  *           chunk gives back. Any contents are allowed: what part and least say is believed for the early word alone.
+ * present   Two images of a chip's rows, lent to otp_make_job: the one that is, and the one that is to be. They may be the same array.
+ * wanted
+ * out       Where otp_make_job writes its job: OTP_JOB_BYTES have room for every job.
+ * at        A place in a job's bytes, as otp_next_entry takes it and gives it back. Any number is allowed; begin with 7.
  *
  * A number that is too large is refused, and so is a length that is wrong. What no call can see is left to the caller: a pointer is
- * never NULL, also where the length is 0, it points to as many elements as the length says, and the rows, the area and the bytes of a
- * chunk, a job or a key do not overlap.
+ * never NULL, also where the length is 0, it points to as many elements as the length says, and what a call writes (the rows, the area,
+ * the output) overlaps nothing else that is lent to it.
  *
  *
  * The numbers that come out
  *
- * Each answer has a number: OTP_DONE, or one of the refusals 1 to 12 that are listed below.
- * Where several apply, the first in this order is given: 1, 4, 2, 5, 6, 7, 3, 8, 9. A job has its own order, given at otp_run_job.
+ * Each answer has a number: OTP_DONE, or one of the refusals 1 to 14 that are listed below.
+ * Where several apply, the first in this order is given: 1, 4, 2, 5, 6, 7, 3, 8, 9. A job has its own order, given at otp_run_job, and
+ * so has the making of one, given at otp_make_job.
  *
- * Any number but 0 is a refusal, and a refusal changes nothing: every row, the state, the area and the note are as they were. Its value,
- * condition, bit, polarity, disagree and pulses are 0, and so is its place, but for a job's 7, 3 and 9.
+ * Any number but 0 is a refusal, and a refusal changes nothing: every row, the state, the area, the note, the output and a place in a job
+ * are as they were. Its value, condition, bit, polarity, disagree and pulses are 0, and so is its place, but for a job's 7, 3 and 9.
  *
  *
  * How much of a page is burnt
@@ -83,7 +88,8 @@ enum {
     OTP_PAGE_ROWS = 64,   /* the rows of a page */
     OTP_PAGE_BITS = 1536, /* the bits of a page, 24 in each row */
     OTP_KEY_BYTES = 16,   /* the bytes of a key */
-    OTP_AREA_BYTES = 3079 /* the bytes of the longest job, and the least that an area may have */
+    OTP_JOB_BYTES = 3079, /* the bytes of the longest job */
+    OTP_AREA_BYTES = 3079 /* the least that an area may have: room for the longest job */
 };
 
 /* Callers, and the domains of a lock: each caller has one. */
@@ -117,14 +123,17 @@ enum {
     OTP_REFUSED_CODE = 8,     /* ECC read: no value has a code within one bit */
     OTP_REFUSED_FIT = 9,      /* ECC write: neither polarity fits over the bits already set */
     OTP_REFUSED_JOB = 10,     /* the job's bytes are malformed */
-    OTP_REFUSED_ORDER = 11,   /* a job's row is out of place, by the rule of its version */
-    OTP_REFUSED_ROOM = 12     /* the lent area is shorter than 3,079 bytes */
+    OTP_REFUSED_ORDER = 11,   /* a job's row is out of place, by the rule of its version; or two images differ in a row from 0xf40 up */
+    OTP_REFUSED_ROOM = 12,    /* the lent area is shorter than 3,079 bytes, or the output shorter than the job */
+    OTP_REFUSED_LOST = 13,    /* a row has a burnt bit that the wanted one lacks */
+    OTP_REFUSED_MANY = 14     /* more than 512 rows differ */
 };
 
 /* What every call answers. A field that a call has no use for is 0. */
 typedef struct {
     uint32_t number;    /* OTP_DONE, any other is a refusal */
-    uint32_t value;     /* what a read or a vote found, the level that a show shows, or the early word of a chunk */
+    uint32_t value;     /* what a read or a vote found, the level that a show shows, the early word of a chunk, or the bytes of a job
+                           that was made */
     uint32_t condition; /* of an ECC read: OTP_CLEAN, OTP_REPAIRED, OTP_FLAG_WORN or OTP_FLAG_WORN_REPAIRED */
     uint32_t bit;       /* the repaired bit, 0 to 21, as it is numbered in the row; 0 where none is repaired */
     uint32_t polarity;  /* of an ECC read: OTP_PLAIN or OTP_INVERTED, as the row was read */
@@ -176,6 +185,16 @@ typedef struct {
     otp_note note;
 } otp_taken;
 
+/* What stands at a place of a job's bytes: an entry, the end, or OTP_REFUSED_JOB. At the end and at 10 row, kind and value are 0. */
+typedef struct {
+    uint64_t at;     /* the place after the call: that after the entry; at the end and at 10 the place that came in */
+    uint32_t number; /* OTP_DONE, or OTP_REFUSED_JOB for a part entry, a kind above 1 or an ECC value above 65,535 */
+    uint32_t end;    /* 1 at the end, else 0 */
+    uint32_t row;    /* of an entry: its row, of any 16 bits */
+    uint32_t kind;   /* 0 ECC, 1 raw */
+    uint32_t value;  /* its value */
+} otp_entry;
+
 /* The layout that libotp.a goes by: each field begins where the one before it ends, and the last ends the struct. A compiler that lays
    a struct out otherwise stops here. */
 #define OTP_END(type, field) (offsetof(type, field) + sizeof(((type *)0)->field))
@@ -224,6 +243,14 @@ OTP_LAST(otp_note, part);
 OTP_FIRST(otp_taken, answer);
 OTP_NEXT(otp_taken, answer, note);
 OTP_LAST(otp_taken, note);
+
+OTP_FIRST(otp_entry, at);
+OTP_NEXT(otp_entry, at, number);
+OTP_NEXT(otp_entry, number, end);
+OTP_NEXT(otp_entry, end, row);
+OTP_NEXT(otp_entry, row, kind);
+OTP_NEXT(otp_entry, kind, value);
+OTP_ASSERT(sizeof(otp_entry) == 32, "otp_entry has not its size"); /* four bytes behind the last field keep its first aligned */
 
 #undef OTP_LAST
 #undef OTP_NEXT
@@ -294,6 +321,17 @@ otp_taken   otp_take_chunk(uint8_t *area, uint64_t area_len, otp_note note, cons
    zeros, it answers and burns what otp_run_job does for the whole. The area and the note are left, and the same end may be announced
    again: it is the same job again. Numbers 0, 1, 12, 10 for a count past 3,079, and then those of otp_run_job. */
 otp_outcome otp_end_job(uint32_t *rows, uint64_t rows_len, otp_state state, const uint8_t *area, uint64_t area_len, otp_note note);
+
+/* Makes the job that burns a present image of a chip into a wanted one: a version 1 job of raw entries, rising, one for each row below
+   0xf40 that differs, which carries the wanted row. Its length in bytes is the value, and the bytes of the output past it are left. No shorter
+   job does it. Of equal images it has no entries. Run on the present image it is refused with 7, where Secure may not write a row that
+   differs, or it leaves the wanted image, for as many pulses as bits differ. Numbers 0, 1, 3, 13, 11, 14, 12. */
+otp_answer  otp_make_job(const uint32_t *present, uint64_t present_len, const uint32_t *wanted, uint64_t wanted_len, uint8_t *out, uint64_t out_len);
+
+/* Hands over the entry at a place of a job's bytes, and the place after it. The first entry stands at 7; from there on the places that come
+   back lead to the end, at or past the length. It reads no head, and judges no row: of a job that otp_run_job does not refuse with 10, it hands
+   over all entries and then the end. Numbers 0, 10. */
+otp_entry   otp_next_entry(const uint8_t *job, uint64_t job_len, uint64_t at);
 
 #ifdef __cplusplus
 }

@@ -9,11 +9,15 @@ ghost use Rattle.burn.specs.Writes as writes;
 ghost use Rattle.job.specs.Jobs as jobs;
 ghost use Rattle.lead.specs.Ending as ending;
 ghost use Rattle.lead.specs.Taking as taking;
-ghost use Rattle.otp.specs.Flat.{flatAnswer, flatOutcome, flatTaken};
+ghost use Rattle.maker.specs.Making as making;
+ghost use Rattle.reader.specs.Handing as handing;
+ghost use Rattle.otp.specs.Flat.{flatAnswer, flatOutcome, flatTaken, flatEntry};
 use crate::flat::FlatAnswer;
+use crate::flat::FlatEntry;
 use crate::flat::FlatOutcome;
 use crate::flat::FlatTaken;
 use crate::flat::flat_answer;
+use crate::flat::flat_entry;
 use crate::flat::flat_outcome;
 use crate::flat::flat_taken;
 use access::reads::read_ecc;
@@ -31,6 +35,8 @@ use lead::taking::take_chunk;
 use lock::calls::advance;
 use lock::calls::enter_key;
 use lock::calls::show;
+use maker::making::make_job;
+use reader::readers::next_entry;
 
 // Latches what the rows hold.
 #[no_mangle]
@@ -187,4 +193,23 @@ pub extern "C" fn otp_end_job(
         ⌝ }
 {
     flat_outcome(end_job(rows, state, area, note))
+}
+
+// Makes the job that burns a present image into a wanted one.
+#[no_mangle]
+pub extern "C" fn otp_make_job(present: &[u32], wanted: &[u32], out: &mut [u8]) -> FlatAnswer
+    ensures { λ r. ⌜
+        (r ≡ flatAnswer (making.makeJob (now (present .entry)) (now (wanted .entry)) (now (out .entry)) .answer))
+        × (now (out .exit) ≡ making.makeJob (now (present .entry)) (now (wanted .entry)) (now (out .entry)) .out)
+        ⌝ }
+{
+    flat_answer(make_job(present, wanted, out))
+}
+
+// Hands over what stands at a place of a job.
+#[no_mangle]
+pub extern "C" fn otp_next_entry(job: &[u8], at: usize) -> FlatEntry
+    ensures { λ r. ⌜ r ≡ flatEntry (handing.handedAt (now (job .entry)) at) ⌝ }
+{
+    flat_entry(next_entry(job, at))
 }

@@ -1,4 +1,5 @@
-// The answer and the outcome as C takes them. An enum cannot cross to C, so the condition and the polarity are numbers here.
+// The answer, the outcome and the entry as C takes them. An enum cannot cross to C, so the condition, the polarity and what stands at a place are
+// numbers here.
 ghost use mathlib.Core.Path.{_≡_};
 ghost use Rattle.otp.specs.Flat as spec;
 use answer::answers::Answer;
@@ -10,6 +11,10 @@ use chip::state::Outcome;
 use chip::state::State;
 use lead::notes::Note;
 use lead::taking::Taken;
+use reader::handing::Handed;
+use reader::numbers::end_number;
+use reader::numbers::found_entry;
+use reader::numbers::found_number;
 
 // `otp_answer` of the header.
 #[repr(C)]
@@ -48,6 +53,23 @@ pub struct FlatTaken {
     pub answer: FlatAnswer,
     // the note after the chunk
     pub note: Note,
+}
+
+// `otp_entry` of the header.
+#[repr(C)]
+pub struct FlatEntry {
+    // the place after the call
+    pub at: usize,
+    // 0, or 10 where no entry stands
+    pub number: u32,
+    // 1 at the end
+    pub end: u32,
+    // of an entry: its row
+    pub row: u32,
+    // 0 ECC, 1 raw
+    pub kind: u32,
+    // its value
+    pub value: u32,
 }
 
 // An answer as C takes it.
@@ -89,5 +111,21 @@ pub fn flat_taken(taken: Taken) -> FlatTaken
     FlatTaken {
         answer: flat_answer(answer),
         note,
+    }
+}
+
+// What stands at a place of a job, as C takes it.
+pub fn flat_entry(handed: Handed) -> FlatEntry
+    ensures { λ r. ⌜ r ≡ spec.flatEntry handed ⌝ }
+{
+    let found = handed.found;
+    let entry = found_entry(found);
+    FlatEntry {
+        at: handed.at,
+        number: found_number(found),
+        end: end_number(found),
+        row: entry.row,
+        kind: entry.kind,
+        value: entry.value,
     }
 }
