@@ -74,7 +74,7 @@ enough (e ∷ others) rows limit h =
     let rest : allPulses (withEntry rows e) others ≤ limit - u = omega arith in
     rw (le-leb u limit here, enough others (withEntry rows e) (limit - u) rest, one-add)
 
-length-entries : (job : List ℕ) (i n : ℕ) → length (entriesFrom job i n) ≡ n
+pub length-entries : (job : List ℕ) (i n : ℕ) → length (entriesFrom job i n) ≡ n
 unfolding entriesFrom
 length-entries job i zero = refl
 length-entries job i (suc n) = ap suc (length-entries job (suc i) n)

@@ -43,7 +43,7 @@ endRefused rows state area note why = go (eqb (length rows) 4096) (noRoom area) 
 -- ---- cut power
 
 -- the bytes of an area's front are bytes
-front-bytes : (area : List ℕ) (n : ℕ) → Bytes area → Bytes (take n area)
+pub front-bytes : (area : List ℕ) (n : ℕ) → Bytes area → Bytes (take n area)
 front-bytes area n bytes at = go (ltb at n) refl
   where
     go : (t : Bool) → ltb at n ≡ t → getD (take n area) at 0 < 256

@@ -1,0 +1,11 @@
+pub mod Rows
+pub mod Passing
+pub mod Changes
+pub mod Sound
+pub mod Burnt
+pub mod Listed
+pub mod Shorter
+pub mod Refusals
+pub mod Bytes
+pub mod Running
+pub mod Reading
