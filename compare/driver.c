@@ -1,22 +1,24 @@
 /*
  * driver.c: libotp.a behind a pipe, for the comparison with the model.
  *
- * Reads requests from standard input and answers each on standard output, until the input ends. It keeps an image of the rows
- * between requests, blank at the start, so that a request holds only the entries that are to differ. All numbers are 32 bits, low
- * byte first; structs are as they lie in memory.
+ * Reads requests from standard input and answers each on standard output, until the input ends. It keeps an image of the rows and a
+ * second one, the wanted rows of a job that is made, between requests, blank at the start, so that a request holds only the entries that
+ * are to differ. All numbers are 32 bits, low byte first; structs are as they lie in memory.
  *
- *     request     call, rows_len, count of entries, counts of two lots of bytes, four arguments, the state (636 bytes), the entries
- *                 (place, value), then the bytes: those of a key, a job or an area, and those of a chunk. The arguments of a call that
- *                 takes a note are its 16 bytes
+ *     request     call, two counts of rows lent, two counts of entries, counts of two lots of bytes, four arguments, the state (636
+ *                 bytes), the entries (place, value) of the one image and of the other, then the bytes: those of a key, a job, an area or
+ *                 an output, and those of a chunk. The arguments of a call that takes a note are its 16 bytes, those of one that takes a
+ *                 place its two halves, low half first, and that of one that takes two images is 1 where the first is lent for both
  *     reply       count of entries, the answer (32 bytes), the state if the call gives one back, or the note (16 bytes) and the area's
- *                 bytes, then the entries (place, value) that the call changed
+ *                 bytes, or the output's bytes, then the entries (place, value) that the call changed. In the answer's place stands what
+ *                 the reader hands over (28 bytes)
  *
  * One request is for many calls, READ_EACH: a row is read with ECC once for each of many entries in it, which go up by one. Its
  * arguments are the caller, the row, the first entry and how many. Its reply has as many answers, and the row is left as it was.
  *
  * The whole image is looked at after each request, so a change to an entry that the call was not lent is told too. A call that changes
- * bytes which it was lent to read, or bytes behind those that it was lent, ends the program with one line and 1, and so does a request
- * that is none of these.
+ * the second image, bytes which it was lent to read, or bytes behind those that it was lent, ends the program with one line and 1, and so
+ * does a request that is none of these.
  *
  *     rt staticlib otp
  *     cc -std=c11 -O2 -Iinclude compare/driver.c target/staticlib/libotp.a -o target/driver
@@ -31,7 +33,8 @@ enum { ENTRIES = 8192, MOST_BYTES = 65536, BEHIND = 1024, MOST_ANSWERS = 65536, 
 
 /* The calls, in the order of the list in src/call.rs: tests/driver.rs holds the two to each other. */
 typedef enum {
-    RESET, READ_RAW, READ_ECC, READ_VOTE, WRITE_RAW, WRITE_ECC, ADVANCE, SHOW, ENTER_KEY, RUN_JOB, REHEARSE, TAKE_CHUNK, END_JOB
+    RESET, READ_RAW, READ_ECC, READ_VOTE, WRITE_RAW, WRITE_ECC, ADVANCE, SHOW, ENTER_KEY, RUN_JOB, REHEARSE, TAKE_CHUNK, END_JOB,
+    MAKE_JOB, NEXT_ENTRY
 } call;
 
 /* The same as in src/driver.rs, and no place in the list. */
@@ -40,7 +43,8 @@ enum { READ_EACH = 0x10000 };
 typedef struct {
     uint32_t call;
     uint32_t rows_len;
-    uint32_t entries;
+    uint32_t wanted_len;
+    uint32_t entries[2];
     uint32_t bytes[2];
     uint32_t arguments[4];
     otp_state state;
@@ -52,11 +56,12 @@ typedef struct {
 } entry;
 
 /* What goes through the pipe has no gaps. */
-_Static_assert(sizeof(request) == 36 + 636, "size of request");
+_Static_assert(sizeof(request) == 44 + 636, "size of request");
 _Static_assert(sizeof(entry) == 8, "size of entry");
 _Static_assert(sizeof(otp_answer) == 32, "size of otp_answer");
 _Static_assert(sizeof(otp_note) == 16 && offsetof(otp_note, part) == 8, "size of otp_note, and place of its part");
 _Static_assert(sizeof(otp_taken) == 32 + 16 && offsetof(otp_taken, note) == 32, "size of otp_taken, and place of its note");
+_Static_assert(offsetof(otp_entry, number) == 8 && offsetof(otp_entry, value) == 24, "places of the fields of otp_entry");
 _Static_assert(sizeof(otp_state) == 636, "size of otp_state");
 _Static_assert(offsetof(otp_state, bootloader) == 128, "place of the bootloader's levels");
 _Static_assert(offsetof(otp_state, keys) == 384 && sizeof(otp_key) == 18, "place and size of the keys");
@@ -66,6 +71,10 @@ _Static_assert(offsetof(otp_state, tallies) == 508 && sizeof(((otp_state *)0)->t
 /* The image, and the same before the call. Between calls the two are equal. */
 static uint32_t image[ENTRIES];
 static uint32_t before[ENTRIES];
+
+/* The second image, which is only lent to be read, and the same before the call. */
+static uint32_t wanted[ENTRIES];
+static uint32_t wanted_before[ENTRIES];
 
 static entry entries[ENTRIES];
 static otp_answer answers[MOST_ANSWERS];
@@ -97,6 +106,25 @@ static void give(const void *place, size_t size, size_t count)
     }
 }
 
+/* Takes as many entries and lays them into an image. */
+static void lay(uint32_t count, uint32_t *now, uint32_t *then)
+{
+    take(entries, sizeof *entries, count);
+    for (uint32_t i = 0; i < count; i++) {
+        if (entries[i].place >= ENTRIES) {
+            stop("an entry lies outside the image");
+        }
+        now[entries[i].place] = entries[i].value;
+        then[entries[i].place] = entries[i].value;
+    }
+}
+
+static bool too_large(const request *r)
+{
+    return r->rows_len > ENTRIES || r->wanted_len > ENTRIES || r->entries[0] > ENTRIES || r->entries[1] > ENTRIES ||
+           r->bytes[0] > MOST_BYTES || r->bytes[1] > MOST_BYTES;
+}
+
 /* Takes the next request with its entries and bytes; false at the end of the input. */
 static bool next(request *asked)
 {
@@ -104,27 +132,16 @@ static bool next(request *asked)
         return false;
     }
     take((char *)asked + 1, sizeof *asked - 1, 1);
-    if (asked->rows_len > ENTRIES || asked->entries > ENTRIES || asked->bytes[0] > MOST_BYTES || asked->bytes[1] > MOST_BYTES) {
+    if (too_large(asked)) {
         stop("a request is too large");
     }
-    take(entries, sizeof *entries, asked->entries);
+    lay(asked->entries[0], image, before);
+    lay(asked->entries[1], wanted, wanted_before);
     for (int i = 0; i < 2; i++) {
         take(lots[i].now, 1, asked->bytes[i]);
         memcpy(lots[i].before, lots[i].now, asked->bytes[i] + BEHIND);
     }
     return true;
-}
-
-/* Lays the request's entries into the image. */
-static void lay(uint32_t count)
-{
-    for (uint32_t i = 0; i < count; i++) {
-        if (entries[i].place >= ENTRIES) {
-            stop("an entry lies outside the image");
-        }
-        image[entries[i].place] = entries[i].value;
-        before[entries[i].place] = entries[i].value;
-    }
 }
 
 /* Notes every entry that the call changed, and gives how many. */
@@ -146,12 +163,13 @@ static uint32_t changed(void)
     return count;
 }
 
-/* What comes back of a call: how much of it is to be told, and how many bytes of the area with it. */
+/* What comes back of a call: how much of it is to be told, and how many bytes of the area or the output with it. */
 typedef struct {
     union {
         otp_answer answer;
         otp_outcome outcome;
         otp_taken taken;
+        otp_entry handed;
     } back;
     size_t size;
     size_t area;
@@ -160,6 +178,10 @@ typedef struct {
 static made answer(otp_answer back) { return (made){.back.answer = back, .size = sizeof back}; }
 static made outcome(otp_outcome back) { return (made){.back.outcome = back, .size = sizeof back}; }
 static made taken(otp_taken back, size_t area) { return (made){.back.taken = back, .size = sizeof back, .area = area}; }
+static made output(otp_answer back, size_t area) { return (made){.back.answer = back, .size = sizeof back, .area = area}; }
+
+/* Nothing is promised of what lies behind the last field. */
+static made handed(otp_entry back) { return (made){.back.handed = back, .size = offsetof(otp_entry, value) + sizeof back.value}; }
 
 /* The note that a request has for its arguments. */
 static otp_note noted(const request *r)
@@ -168,6 +190,14 @@ static otp_note noted(const request *r)
 
     memcpy(&note, r->arguments, sizeof note);
     return note;
+}
+
+/* Makes a job of the image and of the second one, or of the image and itself. */
+static made make_job(const request *r, uint8_t *out, uint64_t length)
+{
+    bool same = r->arguments[0] != 0;
+
+    return output(otp_make_job(image, r->rows_len, same ? image : wanted, same ? r->rows_len : r->wanted_len, out, length), length);
 }
 
 /* Makes the call. There is no default, so that the compiler names a call that is missing. */
@@ -204,6 +234,10 @@ static made make(const request *r)
         return taken(otp_take_chunk(bytes, length, noted(r), lots[1].now, r->bytes[1]), length);
     case END_JOB:
         return outcome(otp_end_job(image, r->rows_len, r->state, bytes, length, noted(r)));
+    case MAKE_JOB:
+        return make_job(r, bytes, length);
+    case NEXT_ENTRY:
+        return handed(otp_next_entry(bytes, length, a[0] | (uint64_t)a[1] << 32));
     }
     stop("there is no such call");
 }
@@ -234,6 +268,9 @@ static void reply(const request *r)
 {
     made m = make(r);
 
+    if (memcmp(wanted, wanted_before, sizeof wanted) != 0) {
+        stop("a call changed an image that it was lent to read");
+    }
     hold(&lots[0], m.area, r->bytes[0]);
     hold(&lots[1], 0, r->bytes[1]);
     tell(&m.back, m.size, m.area);
@@ -266,7 +303,6 @@ int main(void)
     setvbuf(stdin, in, _IOFBF, sizeof in);
     setvbuf(stdout, out, _IOFBF, sizeof out);
     while (next(&asked)) {
-        lay(asked.entries);
         if (asked.call == READ_EACH) {
             reply_each(&asked);
         } else {

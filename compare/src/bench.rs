@@ -1,10 +1,14 @@
-//! Makes each call on both sides and compares everything that comes back: the answer, the state, every row, a chunk's note and area.
+//! Makes each call on both sides and compares everything that comes back: the answer, the state, every row, a chunk's note and area, the
+//! output of a job that is made, and what the reader hands over.
 
 use crate::call::{Call, Chip};
 use crate::counts::Counts;
 use crate::ends::Ends;
 use crate::locks::{key_page, owner};
-use crate::shape::{Answer, Lead, Outcome, State, ROWS};
+use crate::pair_kinds::{Made, Run, PAIRS, RUNS};
+use crate::shape::{Answer, Beside, Handed, Lead, Outcome, State, ROWS};
+use crate::tried::Tried;
+use crate::walked::{Step, PLACES};
 use crate::words::Words;
 
 /// The rows lie in a longer buffer, so that a slice can be too long and a stray write is seen.
@@ -23,6 +27,9 @@ pub struct Bench<'a> {
     pub counts: Counts,
     pub ends: Ends,
     pub words: Words,
+    pub pairs: Tried<Made>,
+    pub runs: Tried<Run>,
+    pub places: Tried<Step>,
 }
 
 impl<'a> Bench<'a> {
@@ -36,6 +43,9 @@ impl<'a> Bench<'a> {
             counts: Counts::default(),
             ends: Ends::default(),
             words: Words::default(),
+            pairs: Tried::new(PAIRS),
+            runs: Tried::new(RUNS),
+            places: Tried::new(PLACES),
         }
     }
 
@@ -75,10 +85,34 @@ impl<'a> Bench<'a> {
             chunk: chunk.to_vec(),
         };
         let made = self.made(&call, ROWS)?;
-        if let Some(left) = made.lead {
+        if let Beside::Lead(left) = made.beside {
             *lead = left;
         }
         Ok(made.answer)
+    }
+
+    /// Makes a job of so many of the rows and of a wanted image, or of the rows twice, and leaves it in the output.
+    pub fn make_job(
+        &mut self,
+        lent: usize,
+        wanted: Option<Vec<u32>>,
+        output: &mut Vec<u8>,
+    ) -> Result<Answer, Difference> {
+        let out = output.clone();
+        let made = self.made(&Call::MakeJob { wanted, out }, lent)?;
+        if let Beside::Output(left) = made.beside {
+            *output = left;
+        }
+        Ok(made.answer)
+    }
+
+    /// Asks the reader what stands at a place of some bytes.
+    pub fn next_entry(&mut self, job: &[u8], at: u64) -> Result<Handed, Difference> {
+        let job = job.to_vec();
+        match self.made(&Call::NextEntry { at, job }, ROWS)?.beside {
+            Beside::Handed(handed) => Ok(handed),
+            _ => Err(Difference("the reader hands nothing over".to_string())),
+        }
     }
 
     /// Makes the call on both sides, and gives what came back.

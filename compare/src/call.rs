@@ -32,12 +32,14 @@ pub enum Lent {
     ToBurn,
 }
 
-/// What comes back: an answer alone, or the state too, or the note and the area.
+/// What comes back: an answer alone, or the state too, or the note and the area, or the output; or what the reader hands over.
 #[derive(Clone, Copy, Debug, PartialEq, Eq)]
 pub enum Back {
     Answer,
     State,
     Lead,
+    Output,
+    Handed,
 }
 
 /// What holds of a call whatever its arguments are. The numbers are in the order of their standing.
@@ -51,16 +53,21 @@ pub struct Kind {
 /// An argument of a call.
 enum Argument<'a> {
     Number(u32),
+    Place(u64),
     Bytes(&'a [u8]),
     Lead(&'a Lead),
+    Image(Option<&'a [u32]>),
 }
 
 impl<'a> Argument<'a> {
-    /// The numbers that the driver takes for it: the bytes of a note are four.
+    /// The numbers that the driver takes for it: a place is two, low half first, the bytes of a note are four, and of an image it takes
+    /// whether it is the rows once more.
     fn numbers(&self) -> Vec<u32> {
         match self {
             Argument::Number(number) => vec![*number],
+            Argument::Place(place) => vec![*place as u32, (place >> 32) as u32],
             Argument::Bytes(_) => Vec::new(),
+            Argument::Image(image) => vec![u32::from(image.is_none())],
             Argument::Lead(lead) => {
                 let mut bytes = Vec::new();
                 lead.note.put(&mut bytes);
@@ -71,7 +78,7 @@ impl<'a> Argument<'a> {
 
     fn bytes(&self) -> Option<&'a [u8]> {
         match self {
-            Argument::Number(_) => None,
+            Argument::Number(_) | Argument::Place(_) | Argument::Image(_) => None,
             Argument::Bytes(bytes) => Some(bytes),
             Argument::Lead(lead) => Some(&lead.area),
         }
@@ -81,6 +88,18 @@ impl<'a> Argument<'a> {
 impl From<&u32> for Argument<'_> {
     fn from(number: &u32) -> Self {
         Argument::Number(*number)
+    }
+}
+
+impl From<&u64> for Argument<'_> {
+    fn from(place: &u64) -> Self {
+        Argument::Place(*place)
+    }
+}
+
+impl<'a> From<&'a Option<Vec<u32>>> for Argument<'a> {
+    fn from(image: &'a Option<Vec<u32>>) -> Self {
+        Argument::Image(image.as_deref())
     }
 }
 
@@ -143,6 +162,8 @@ calls! {
     "rehearse"   Rehearse { limit: u32, job: Vec<u8> }                       ToBurn, State,  [0, 1, 10, 11, 7, 3, 9];
     "take_chunk" TakeChunk { lead: Lead, chunk: Vec<u8> }                    Never,  Lead,   [0, 12];
     "end_job"    EndJob { lead: Lead }                                       ToBurn, State,  [0, 1, 12, 10, 11, 7, 3, 9];
+    "make_job"   MakeJob { wanted: Option<Vec<u32>>, out: Vec<u8> }          ToRead, Output, [0, 1, 3, 13, 11, 14, 12];
+    "next_entry" NextEntry { at: u64, job: Vec<u8> }                         Never,  Handed, [0, 10];
 }
 
 impl Call {
@@ -168,13 +189,22 @@ impl Call {
         four
     }
 
-    /// The bytes of a key or a job, or those of an area and of a chunk, where the call has them: the driver takes two lots.
+    /// The bytes of a key, a job or an output, or those of an area and of a chunk, where the call has them: the driver takes two lots.
     pub fn bytes(&self) -> [&[u8]; 2] {
         let mut lots = self
             .arguments()
             .into_iter()
             .filter_map(|(_, argument)| argument.bytes());
         [(); 2].map(|()| lots.next().unwrap_or_default())
+    }
+
+    /// The second image that the call is lent, where it is not the rows once more.
+    pub fn image(&self) -> &[u32] {
+        let image = |(_, argument)| match argument {
+            Argument::Image(image) => image,
+            _ => None,
+        };
+        self.arguments().into_iter().find_map(image).unwrap_or_default()
     }
 
     /// The rows that the call names: the first, and how many.
@@ -211,6 +241,9 @@ impl fmt::Display for Call {
                 Argument::Number(row) if name == "row" => write!(out, " row {row:#05x}")?,
                 Argument::Number(value) if name == "value" => write!(out, " value {value:#x}")?,
                 Argument::Number(number) => write!(out, " {name} {number}")?,
+                Argument::Place(place) => write!(out, " {name} {place}")?,
+                Argument::Image(None) => write!(out, " {name} the same rows")?,
+                Argument::Image(Some(image)) => write!(out, " {name} {} rows", image.len())?,
                 Argument::Bytes(bytes) => write!(out, " {name} {}", hex(bytes))?,
                 Argument::Lead(Lead { note, area }) => {
                     let Note { counted, least, part } = note;

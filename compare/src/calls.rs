@@ -3,7 +3,7 @@
 use crate::call::{Call, Chip};
 use crate::fault::Fault;
 use crate::model::Model;
-use crate::shape::{Answer, Lead, Outcome, State};
+use crate::shape::{Answer, Beside, Outcome, State};
 use crate::tallies::{kept, Named};
 
 /// Done, with a new state.
@@ -37,15 +37,29 @@ impl Chip for Model {
             Call::RunJob { ref job } => self.job(rows, &state, job, None),
             Call::Rehearse { limit, ref job } => self.job(rows, &state, job, Some(limit)),
             Call::TakeChunk { ref lead, ref chunk } => self.taken(lead, chunk).map(|(answer, left)| Outcome {
-                lead: Some(left),
+                beside: Beside::Lead(left),
                 ..kept(answer)
             }),
             Call::EndJob { ref lead } => self.ended(rows, &state, lead),
+            Call::MakeJob { ref wanted, ref out } => {
+                self.made(rows, wanted.as_deref().unwrap_or(rows), out)
+                    .map(|(answer, left)| Outcome {
+                        beside: Beside::Output(left),
+                        ..kept(answer)
+                    })
+            }
+            Call::NextEntry { at, ref job } => {
+                let handed = self.handed(job, at);
+                Ok(Outcome {
+                    beside: Beside::Handed(handed),
+                    ..kept(Answer::refused(handed.number))
+                })
+            }
         };
         done.unwrap_or_else(|number| Outcome {
-            answer: Answer::refused(number),
+            answer: self.refusal(call, rows, number),
             state: self.refused_state(call, rows, state),
-            lead: self.refused_lead(call),
+            beside: self.refused_beside(call, rows, number),
         })
     }
 }
@@ -67,11 +81,26 @@ impl Model {
         }
     }
 
-    /// The note and the area that a refused chunk leaves.
-    fn refused_lead(&self, call: &Call) -> Option<Lead> {
+    /// What a refusal answers: its number, and nothing else. A fault lets a job without room say how much it needs.
+    fn refusal(&self, call: &Call, rows: &[u32], number: u32) -> Answer {
         match call {
-            Call::TakeChunk { lead, chunk } => Some(self.kept_lead(lead, chunk)),
-            _ => None,
+            Call::MakeJob { wanted, .. } if self.has(Fault::MakeSaysRoom) && number == 12 => Answer {
+                value: self.job_of(rows, wanted.as_deref().unwrap_or(rows)).len() as u32,
+                ..Answer::refused(number)
+            },
+            _ => Answer::refused(number),
+        }
+    }
+
+    /// The note and the area that a refused chunk leaves, and the output that a job leaves which is not made.
+    fn refused_beside(&self, call: &Call, rows: &[u32], number: u32) -> Beside {
+        match call {
+            Call::TakeChunk { lead, chunk } => Beside::Lead(self.kept_lead(lead, chunk)),
+            Call::MakeJob { wanted, out } => {
+                let job = self.job_of(rows, wanted.as_deref().unwrap_or(rows));
+                Beside::Output(self.kept_output(&job, out, number))
+            }
+            _ => Beside::Nothing,
         }
     }
 }

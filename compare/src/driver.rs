@@ -1,4 +1,4 @@
-//! The driver: a child process that holds the library and an image of the rows, and makes one call for each request.
+//! The driver: a child process that holds the library, an image of the rows and another one, and makes one call for each request.
 //! What goes through the pipe is written down in `driver.c`.
 
 use std::io::{self, BufReader, Read, Write};
@@ -7,9 +7,9 @@ use std::process::{Child, ChildStdin, ChildStdout, Command, Stdio};
 
 use crate::call::{Back, Call};
 use crate::part::Part;
-use crate::shape::{Answer, Lead, Note, State, ROWS, SECURE};
+use crate::shape::{Answer, Beside, Handed, Lead, State, ROWS, SECURE};
 
-/// How many entries the driver's image has.
+/// How many entries each of the driver's images has.
 const IMAGE: usize = 8192;
 /// Room for a reply with some thousand entries.
 const BUFFER: usize = 1 << 16;
@@ -19,11 +19,20 @@ const READ_EACH: usize = 0x1_0000;
 /// Entries of the image that became another number.
 pub type Changed = Vec<(usize, u32)>;
 
-/// What came back: the state is there if the call gives one back, and so are a note and an area.
+/// What goes to the driver: a call by its place in the list, its numbers, its two lots of bytes, the rows and the other image, the state.
+struct Request<'a> {
+    call: usize,
+    numbers: [u32; 4],
+    lots: [&'a [u8]; 2],
+    images: [&'a [u32]; 2],
+    state: &'a State,
+}
+
+/// What came back: the state is there if the call gives one back.
 pub struct Reply {
     pub answer: Answer,
     pub state: Option<State>,
-    pub lead: Option<Lead>,
+    pub beside: Beside,
     pub changed: Changed,
 }
 
@@ -32,8 +41,8 @@ pub struct Driver {
     /// Closed by taking it away.
     input: Option<ChildStdin>,
     output: BufReader<ChildStdout>,
-    /// The driver's image, as it stands there.
-    image: Vec<u32>,
+    /// The driver's images, as they stand there: that of the rows, and the other one.
+    images: [Vec<u32>; 2],
     /// The bytes of the request, and of the part of a reply that is being read.
     request: Vec<u8>,
     part: Vec<u8>,
@@ -56,7 +65,7 @@ impl Driver {
             child,
             input,
             output: BufReader::with_capacity(BUFFER, output),
-            image: vec![0; IMAGE],
+            images: [(); 2].map(|()| vec![0; IMAGE]),
             request: Vec::with_capacity(BUFFER),
             part: Vec::new(),
         })
@@ -65,28 +74,32 @@ impl Driver {
     /// Makes one call on these rows.
     pub fn ask(&mut self, call: &Call, rows: &[u32], state: &State) -> Result<Reply, String> {
         let lots = call.bytes();
-        self.send(call.index(), call.numbers(), lots, rows, state)?;
+        self.send(&Request {
+            call: call.index(),
+            numbers: call.numbers(),
+            lots,
+            images: [rows, call.image()],
+            state,
+        })?;
         self.receive(call.kind().back, lots[0].len())
     }
 
     /// Reads a row with ECC for each of these entries in it, as Secure, on a chip that is blank otherwise.
     pub fn ask_each(&mut self, row: u32, entries: Range<u32>) -> Result<(Vec<Answer>, Changed), String> {
-        let arguments = [SECURE, row, entries.start, entries.len() as u32];
-        self.send(READ_EACH, arguments, [&[]; 2], &[0; ROWS], &State::blank())?;
+        self.send(&Request {
+            call: READ_EACH,
+            numbers: [SECURE, row, entries.start, entries.len() as u32],
+            lots: [&[]; 2],
+            images: [&[0; ROWS], &[]],
+            state: &State::blank(),
+        })?;
         let count: u32 = self.read()?;
         let answers = entries.map(|_| self.read()).collect::<Result<_, _>>()?;
         Ok((answers, self.receive_changed(count)?))
     }
 
-    fn send(
-        &mut self,
-        call: usize,
-        numbers: [u32; 4],
-        lots: [&[u8]; 2],
-        rows: &[u32],
-        state: &State,
-    ) -> Result<(), String> {
-        self.write_down(call, numbers, lots, rows, state);
+    fn send(&mut self, asked: &Request) -> Result<(), String> {
+        self.write_down(asked);
         let sent = match &mut self.input {
             Some(input) => input.write_all(&self.request),
             None => Err(io::ErrorKind::BrokenPipe.into()),
@@ -94,49 +107,62 @@ impl Driver {
         sent.map_err(|error| self.lost(error))
     }
 
-    /// The request's bytes. Only the entries that the driver's image lacks are among them.
-    fn write_down(&mut self, call: usize, numbers: [u32; 4], lots: [&[u8]; 2], rows: &[u32], state: &State) {
-        let differ: Vec<usize> = differences(rows, &self.image);
+    /// The request's bytes. Only the entries that the driver's images lack are among them.
+    fn write_down(&mut self, asked: &Request) {
+        let [rows, other] = asked.images;
+        let differ = [differences(rows, &self.images[0]), differences(other, &self.images[1])];
+        let lengths = [rows.len(), other.len(), differ[0].len(), differ[1].len()];
         self.request.clear();
-        for count in [call, rows.len(), differ.len(), lots[0].len(), lots[1].len()] {
+        for count in [&[asked.call][..], &lengths, &asked.lots.map(<[u8]>::len)].concat() {
             (count as u32).put(&mut self.request);
         }
-        for number in numbers {
-            number.put(&mut self.request);
+        asked.numbers.put(&mut self.request);
+        asked.state.put(&mut self.request);
+        for (image, (given, differ)) in self.images.iter_mut().zip(asked.images.iter().zip(differ)) {
+            for place in differ {
+                image[place] = given[place];
+                (place as u32).put(&mut self.request);
+                given[place].put(&mut self.request);
+            }
         }
-        state.put(&mut self.request);
-        for place in differ {
-            self.image[place] = rows[place];
-            (place as u32).put(&mut self.request);
-            rows[place].put(&mut self.request);
-        }
-        self.request.extend(lots.concat());
+        self.request.extend(asked.lots.concat());
     }
 
-    /// What the call gives back, with an area of so many bytes if it does.
+    /// What the call gives back, with an area or an output of so many bytes if it does.
     fn receive(&mut self, back: Back, length: usize) -> Result<Reply, String> {
         let count: u32 = self.read()?;
-        let answer = self.read()?;
-        let (mut state, mut lead) = (None, None);
+        let (mut state, mut beside) = (None, Beside::Nothing);
+        let answer = match back {
+            Back::Handed => {
+                let handed: Handed = self.read()?;
+                beside = Beside::Handed(handed);
+                Answer::refused(handed.number)
+            }
+            _ => self.read()?,
+        };
         match back {
-            Back::Answer => {}
+            Back::Answer | Back::Handed => {}
             Back::State => state = Some(self.read()?),
-            Back::Lead => lead = Some(self.receive_lead(length)?),
+            Back::Lead => {
+                let note = self.read()?;
+                let area = self.receive_bytes(length)?;
+                beside = Beside::Lead(Lead { note, area });
+            }
+            Back::Output => beside = Beside::Output(self.receive_bytes(length)?),
         }
         let changed = self.receive_changed(count)?;
         Ok(Reply {
             answer,
             state,
-            lead,
+            beside,
             changed,
         })
     }
 
-    fn receive_lead(&mut self, length: usize) -> Result<Lead, String> {
-        let note: Note = self.read()?;
-        let mut area = vec![0; length];
-        match self.output.read_exact(&mut area) {
-            Ok(()) => Ok(Lead { note, area }),
+    fn receive_bytes(&mut self, length: usize) -> Result<Vec<u8>, String> {
+        let mut bytes = vec![0; length];
+        match self.output.read_exact(&mut bytes) {
+            Ok(()) => Ok(bytes),
             Err(error) => Err(self.lost(error)),
         }
     }
@@ -146,8 +172,7 @@ impl Driver {
         for _ in 0..count {
             let place = self.read::<u32>()? as usize;
             let value = self.read()?;
-            let entry = self
-                .image
+            let entry = self.images[0]
                 .get_mut(place)
                 .ok_or("the driver names no entry of its image")?;
             *entry = value;

@@ -85,7 +85,7 @@ fn head_and_length(file: &[u8]) -> Vec<Vec<u8>> {
 }
 
 /// All files but the longest.
-fn files() -> Vec<Vec<u8>> {
+pub fn files() -> Vec<Vec<u8>> {
     let mut files = Vec::new();
     for (version, list) in JOBS {
         let file = of_version(version, list);
@@ -162,7 +162,7 @@ fn most(version: u16, count: usize) -> Vec<u8> {
 }
 
 /// The longest jobs, with a fault in one byte of an entry or in none, and files that are longer.
-fn longest() -> Vec<Vec<u8>> {
+pub fn longest() -> Vec<Vec<u8>> {
     let changed = |version, place: usize, byte| {
         let mut file = most(version, MOST);
         file[place] = byte;

@@ -68,7 +68,7 @@ impl Chip for Library {
         Outcome {
             answer: reply.answer,
             state: reply.state.unwrap_or(state),
-            lead: reply.lead,
+            beside: reply.beside,
         }
     }
 

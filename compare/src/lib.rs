@@ -2,12 +2,14 @@
 //!
 //! `call` has the list of the calls and `shape` the fields of what goes into them and comes back.
 //! The model goes in one line, from the row up: `row`, `code`, `wear`, `locks`, `tallies`, `keys`, `permission`,
-//! `model`, `access`, `latches`, `form`, `jobs`, `early`, `lead`, `calls`. Each uses only those before it, and what has no rule in it; `tests/line.rs` sees to it.
+//! `model`, `access`, `latches`, `form`, `jobs`, `early`, `lead`, `make`, `reader`, `calls`. Each uses only those before it, and what has no rule
+//! in it; `tests/line.rs` sees to it.
 //! The library is in `face`, behind the child process of `driver`.
 //! `plain` is for timings alone, and is not there when the comparison is built.
 //! Everything else draws calls, makes them on both sides and compares what comes back. `cuts` says what is promised of a job that is cut and
 //! run again, and `ends` counts how such runs end. `sent` says what is promised of a job that comes over the lead in chunks, and `words` counts
-//! what was said of such jobs before their end. `agreement` says when two chips look the same to a
+//! what was said of such jobs before their end. `made` and `made_jobs` say what is promised of a job that is made of two images, and `walked` of
+//! one that is read entry by entry; `pair_kinds` and `tried` count what came up. `agreement` says when two chips look the same to a
 //! Non-secure plug-in; `unlike`, `pairs`, `two_chips`, `plugins`, `written_pair` and `sharpness` hold the library to that.
 
 pub mod call;
@@ -26,8 +28,10 @@ pub mod ladder;
 pub mod latches;
 pub mod lead;
 pub mod locks;
+pub mod make;
 pub mod model;
 pub mod permission;
+pub mod reader;
 pub mod row;
 pub mod tallies;
 pub mod wear;
@@ -53,8 +57,11 @@ pub mod cuttings;
 pub mod ends;
 pub mod every;
 pub mod every_cutting;
+pub mod every_ground;
 pub mod every_lock_cut;
 pub mod every_note;
+pub mod every_pair;
+pub mod every_place;
 pub mod every_tally;
 pub mod every_version;
 pub mod images;
@@ -62,9 +69,14 @@ pub mod jobfiles;
 pub mod leads;
 pub mod lock_bytes;
 pub mod lock_rows;
+pub mod made;
+pub mod made_jobs;
+pub mod makings;
+pub mod pair_kinds;
 pub mod pairs;
 pub mod plugins;
 pub mod random;
+pub mod readings;
 pub mod recount;
 pub mod run;
 pub mod sent;
@@ -72,7 +84,9 @@ pub mod sequences;
 pub mod sharpness;
 pub mod spoilt;
 pub mod states;
+pub mod tried;
 pub mod two_chips;
 pub mod unlike;
+pub mod walked;
 pub mod words;
 pub mod written_pair;

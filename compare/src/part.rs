@@ -44,7 +44,7 @@ macro_rules! numbers {
     };
 }
 
-numbers! { u8 u16 u32 }
+numbers! { u8 u16 u32 u64 }
 
 /// A bool of C is 0 or 1; anything else is the library's mistake.
 impl Part for bool {

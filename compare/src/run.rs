@@ -1,4 +1,5 @@
-//! The mix of calls: one image after another, each met by some hundred calls, with cut jobs and jobs sent in chunks in between.
+//! The mix of calls: one image after another, each met by some hundred calls, with cut jobs, jobs sent in chunks, jobs made of two images and
+//! jobs read by their entries in between.
 
 use crate::arguments;
 use crate::bench::{Bench, Difference};
@@ -10,7 +11,9 @@ use crate::images::{too_large, Image};
 use crate::jobfiles;
 use crate::leads;
 use crate::locks::{key_page, owner};
+use crate::makings;
 use crate::random::Random;
+use crate::readings;
 use crate::recount::tallies_are_right;
 use crate::sequences;
 use crate::shape::{State, ROWS};
@@ -25,10 +28,12 @@ pub fn run(bench: &mut Bench, codes: &Codes, sound: &dyn Chip, calls: u64, seed:
     let mut random = Random::new(seed);
     while bench.counts.calls < calls {
         let room = calls - bench.counts.calls;
-        match random.below(16) {
+        match random.below(22) {
             0..=5 if room >= sequences::MOST_CALLS => sequences::cut(&mut random, bench, codes)?,
             6..=9 if room >= cuttings::MOST_CALLS => cuttings::send(&mut random, bench, codes)?,
             10..=13 if room >= leads::MOST_CALLS => leads::any(&mut random, bench, codes)?,
+            14..=17 if room >= makings::MOST_CALLS => makings::make(&mut random, bench, codes)?,
+            18 | 19 if room >= readings::MOST_CALLS => readings::read(&mut random, bench, codes)?,
             _ => episode(&mut random, bench, codes, sound, room.min(EPISODE))?,
         }
     }

@@ -128,28 +128,65 @@ pub struct Lead {
 impl Lead {
     /// Where the library's differs from the model's.
     fn differs(&self, ours: &Lead) -> Option<String> {
-        let byte = || {
-            let mut bytes = self.area.iter().zip(&ours.area).enumerate();
-            let (place, (theirs, ours)) = bytes.find(|(_, (theirs, ours))| theirs != ours)?;
-            Some(format!("area[{place}]: library {theirs:#04x}, model {ours:#04x}"))
-        };
+        let byte = || byte_differs(&self.area, &ours.area, "area");
         self.note.differs(&ours.note, "note").or_else(byte)
     }
 }
 
-/// What comes back of a call: its answer, the state afterwards, and of a chunk the note and the area that it leaves.
+shape! {
+    /// What the reader hands over of a place in a job's bytes: the place after it, its number, 1 where the end is there, and an entry.
+    Handed {
+        at: u64,
+        number: u32,
+        end: u32,
+        row: u32,
+        kind: u32,
+        value: u32,
+    }
+}
+
+/// What comes back beside an answer: of a chunk the note and the area that it leaves, of a job that is made the output, and of the reader what
+/// it hands over.
+#[derive(Clone, Debug, PartialEq, Eq)]
+pub enum Beside {
+    Nothing,
+    Lead(Lead),
+    Output(Vec<u8>),
+    Handed(Handed),
+}
+
+impl Beside {
+    /// Where the library's differs from the model's.
+    fn differs(&self, ours: &Beside) -> Option<String> {
+        match (self, ours) {
+            (Beside::Lead(theirs), Beside::Lead(ours)) => theirs.differs(ours),
+            (Beside::Output(theirs), Beside::Output(ours)) => byte_differs(theirs, ours, "output"),
+            (Beside::Handed(theirs), Beside::Handed(ours)) => theirs.differs(ours, "entry"),
+            _ => None,
+        }
+    }
+}
+
+/// The first byte in which the library's differ from the model's.
+fn byte_differs(theirs: &[u8], ours: &[u8], name: &str) -> Option<String> {
+    let mut bytes = theirs.iter().zip(ours).enumerate();
+    let (place, (theirs, ours)) = bytes.find(|(_, (theirs, ours))| theirs != ours)?;
+    Some(format!("{name}[{place}]: library {theirs:#04x}, model {ours:#04x}"))
+}
+
+/// What comes back of a call: its answer, the state afterwards, and what there is beside them. Of the reader the answer is its number alone.
 #[derive(Clone, Debug, PartialEq, Eq)]
 pub struct Outcome {
     pub answer: Answer,
     pub state: State,
-    pub lead: Option<Lead>,
+    pub beside: Beside,
 }
 
 impl Outcome {
-    /// Of a call that is handed no area.
+    /// Of a call that gives back nothing else.
     pub fn new(answer: Answer, state: State) -> Outcome {
-        let lead = None;
-        Outcome { answer, state, lead }
+        let beside = Beside::Nothing;
+        Outcome { answer, state, beside }
     }
 
     /// The first field in which the library's outcome differs from the model's.
@@ -159,7 +196,7 @@ impl Outcome {
         }
         let answer = self.answer.differs(&ours.answer, "answer");
         let state = || self.state.differs(&ours.state, "state");
-        let lead = || self.lead.as_ref()?.differs(ours.lead.as_ref()?);
-        answer.or_else(state).or_else(lead)
+        let beside = || self.beside.differs(&ours.beside);
+        answer.or_else(state).or_else(beside)
     }
 }

@@ -2,7 +2,7 @@
 //! the header's structs, must be in the same order.
 
 use compare::call::CALLS;
-use compare::shape::{Answer, Key, Note, State};
+use compare::shape::{Answer, Handed, Key, Note, State};
 
 #[test]
 fn the_driver_lists_the_calls_in_the_same_order() {
@@ -35,4 +35,5 @@ fn the_header_has_the_fields_in_the_same_order() {
     assert_eq!(fields("otp_state"), State::FIELDS);
     assert_eq!(fields("otp_note"), Note::FIELDS);
     assert_eq!(fields("otp_taken"), ["answer", "note"]);
+    assert_eq!(fields("otp_entry"), Handed::FIELDS);
 }

@@ -5,7 +5,7 @@ use compare::call::{Call, Chip};
 use compare::form::{Entry, ECC, RAW};
 use compare::jobfiles::of_version;
 use compare::model::Model;
-use compare::shape::{Answer, Lead, Note, State};
+use compare::shape::{Answer, Beside, Lead, Note, State};
 
 thread_local! {
     static MODEL: Model = Model::sound();
@@ -21,7 +21,10 @@ fn word(lead: &mut Lead, chunk: &[u8]) -> u32 {
     let (before, chunk) = (lead.clone(), chunk.to_vec());
     let call = Call::TakeChunk { lead: before, chunk };
     let made = MODEL.with(|model| model.make(&call, &mut [], State::blank()));
-    *lead = made.lead.expect("a chunk gives note and area back");
+    let Beside::Lead(left) = made.beside else {
+        panic!("a chunk gives note and area back")
+    };
+    *lead = left;
     assert_eq!(made.answer, Answer::value(made.answer.value));
     made.answer.value
 }

@@ -4,7 +4,7 @@
 use compare::call::{Call, Chip};
 use compare::model::Model;
 use compare::random::Random;
-use compare::shape::{Answer, Lead, Note, Outcome, State, ROWS};
+use compare::shape::{Answer, Beside, Lead, Note, Outcome, State, ROWS};
 
 thread_local! {
     static MODEL: Model = Model::sound();
@@ -23,7 +23,10 @@ fn make(call: &Call, rows: &mut [u32]) -> Outcome {
 fn take(lead: &mut Lead, chunk: &[u8]) -> Answer {
     let (before, chunk) = (lead.clone(), chunk.to_vec());
     let made = make(&Call::TakeChunk { lead: before, chunk }, &mut []);
-    *lead = made.lead.expect("a chunk gives note and area back");
+    let Beside::Lead(left) = made.beside else {
+        panic!("a chunk gives note and area back")
+    };
+    *lead = left;
     made.answer
 }
 

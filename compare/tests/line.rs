@@ -2,7 +2,7 @@
 
 use std::fs;
 
-const LINE: [&str; 20] = [
+const LINE: [&str; 22] = [
     "part",
     "shape",
     "call",
@@ -22,6 +22,8 @@ const LINE: [&str; 20] = [
     "jobs",
     "early",
     "lead",
+    "make",
+    "reader",
     "calls",
 ];
 

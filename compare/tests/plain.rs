@@ -1,20 +1,24 @@
-//! The timed rules against the model, on the comparison's own mix of calls and on every cutting of a job: else a time would say nothing.
+//! The timed rules against the model, on the comparison's own mix of calls, on every cutting of a job, on every pair of images and on every place
+//! in a job: else a time would say nothing.
 
 use compare::bench::Bench;
 use compare::call::{Call, Chip};
 use compare::every_cutting::every_cutting;
+use compare::every_ground::every_ground;
 use compare::every_note::every_note;
+use compare::every_pair::every_pair;
+use compare::every_place::every_place;
 use compare::model::Model;
-use compare::plain::{access, chip, jobs, lead as plain};
+use compare::plain::{access, chip, jobs, lead as plain, make, reader};
 use compare::run::run;
-use compare::shape::{Lead, Outcome, State};
+use compare::shape::{Answer, Beside, Lead, Outcome, State};
 
 /// The timed rules as what makes calls.
 struct Plain;
 
 impl Chip for Plain {
     fn make(&self, call: &Call, rows: &mut [u32], mut state: State) -> Outcome {
-        let mut left = None;
+        let mut beside = Beside::Nothing;
         let answer = match *call {
             Call::Reset {} => chip::reset(rows, &mut state),
             Call::ReadRaw { caller, row } => access::read_raw(rows, &state, caller, row),
@@ -33,16 +37,25 @@ impl Chip for Plain {
             Call::RunJob { ref job } => jobs::run_job(rows, &mut state, job),
             Call::Rehearse { limit, ref job } => jobs::rehearse(rows, &mut state, job, limit),
             Call::TakeChunk { ref lead, ref chunk } => {
-                let Lead { note, area } = left.insert(lead.clone());
-                plain::take_chunk(area, note, chunk)
+                let Lead { mut note, mut area } = lead.clone();
+                let answer = plain::take_chunk(&mut area, &mut note, chunk);
+                beside = Beside::Lead(Lead { note, area });
+                answer
             }
             Call::EndJob { ref lead } => plain::end_job(rows, &mut state, &lead.area, &lead.note),
+            Call::MakeJob { ref wanted, ref out } => {
+                let mut out = out.clone();
+                let answer = make::make_job(rows, wanted.as_deref().unwrap_or(rows), &mut out);
+                beside = Beside::Output(out);
+                answer
+            }
+            Call::NextEntry { at, ref job } => {
+                let handed = reader::next_entry(job, at);
+                beside = Beside::Handed(handed);
+                Answer::refused(handed.number)
+            }
         };
-        Outcome {
-            answer,
-            state,
-            lead: left,
-        }
+        Outcome { answer, state, beside }
     }
 }
 
@@ -53,4 +66,7 @@ fn the_plain_rules_answer_as_the_model_does() {
     run(&mut bench, &model.codes, &model, 200_000, 3).expect("no call differs");
     every_cutting(&mut bench).expect("no call differs");
     every_note(&mut bench).expect("no call differs");
+    every_ground(&mut bench).expect("no call differs");
+    every_pair(&mut bench).expect("no call differs");
+    every_place(&mut bench).expect("no call differs");
 }

@@ -10,6 +10,7 @@
 //!     compare --tallies                       tallies of every kind before every call: each row written and counted, jobs cut at every pulse
 //!     compare --versions                      jobs of every version over the border rows, and version 2 jobs cut at every pulse
 //!     compare --lead                          jobs sent in chunks, cut at every byte, and every kind of note and area
+//!     compare --make                          jobs made of pairs of images of every kind, and read at every place
 //!     compare [CALLS] [SEED] --plug-ins       Non-secure calls on two chips that agree; 200,000 random ones and seed 1 where not given
 //!     compare --plug-ins --fault NAME         the same with the model, with one fault, in the library's place: does it leak?
 //!
@@ -26,8 +27,11 @@ use compare::callers::every_caller;
 use compare::counts::to_anyone;
 use compare::every::{every_read, every_write};
 use compare::every_cutting::every_cutting;
+use compare::every_ground::every_ground;
 use compare::every_lock_cut::every_lock_cut;
 use compare::every_note::every_note;
+use compare::every_pair::every_pair;
+use compare::every_place::every_place;
 use compare::every_tally::every_tally;
 use compare::every_version::every_version;
 use compare::face::{self, Library};
@@ -53,6 +57,7 @@ enum Mode {
     Tallies,
     Versions,
     Lead,
+    Make,
     PlugIns,
 }
 
@@ -90,6 +95,7 @@ fn wish() -> Result<Wish, String> {
             "--tallies" => wish.mode = Mode::Tallies,
             "--versions" => wish.mode = Mode::Versions,
             "--lead" => wish.mode = Mode::Lead,
+            "--make" => wish.mode = Mode::Make,
             "--plug-ins" => wish.mode = Mode::PlugIns,
             _ => numbers.push(word.parse::<u64>().map_err(|_| format!("not understood: '{word}'"))?),
         }
@@ -114,18 +120,32 @@ fn compare(wish: &Wish, library: &Library, sound: &Model) -> Result<(), String> 
     bench.counts.print(to_anyone);
     bench.ends.print();
     bench.words.print();
+    bench.pairs.print("pairs of images");
+    bench.runs.print("runs of jobs made of them");
+    bench.places.print("places in a job's bytes");
     result.map_err(|Difference(line)| format!("seed {}: {line}", wish.seed))?;
     if let Some((name, number)) = bench.counts.missing(to_anyone) {
         return Err(format!("{name} never gave {number} in {} calls", bench.counts.calls));
     }
-    if let Some(kind) = bench.ends.missing() {
-        return Err(format!("no job with lock rows was cut {kind}"));
-    }
-    if let Some(kind) = bench.words.missing() {
-        return Err(format!("no job sent in chunks was {kind}"));
+    if let Some(line) = never_tried(&bench) {
+        return Err(line);
     }
     println!("{} calls compared, 0 differ", bench.counts.calls);
     Ok(())
+}
+
+/// A kind that never came up.
+fn never_tried(bench: &Bench) -> Option<String> {
+    let kinds = [
+        ("job with lock rows was cut", bench.ends.missing()),
+        ("job sent in chunks was", bench.words.missing()),
+        ("pair of images was", bench.pairs.missing()),
+        ("run of a job made of two images was", bench.runs.missing()),
+        ("place in a job's bytes was", bench.places.missing()),
+    ];
+    kinds
+        .into_iter()
+        .find_map(|(what, kind)| Some(format!("no {what} {}", kind?)))
 }
 
 /// Each fault in turn.
@@ -167,7 +187,7 @@ fn every(
 /// Makes calls on a bench, the same ones each time.
 type Calls = fn(&mut Bench) -> Result<(), Difference>;
 
-/// Every lock row, every caller, every tally, every version, or every cutting: one list of calls after another, on one bench.
+/// Every lock row, every caller, every tally, every version, every cutting, or every pair: one list of calls after another, on one bench.
 fn all_of(calls: &[Calls], wish: &Wish, library: &Library, sound: &Model) -> Result<(), String> {
     let model = wish.fault.map_or(sound.clone(), Model::faulty);
     let mut bench = Bench::new(library, &model);
@@ -244,6 +264,7 @@ fn main() -> ExitCode {
         Mode::Tallies => all_of(&[every_tally], &wish, &library, &sound),
         Mode::Versions => all_of(&[every_version, every_lock_cut], &wish, &library, &sound),
         Mode::Lead => all_of(&[every_cutting, every_note], &wish, &library, &sound),
+        Mode::Make => all_of(&[every_ground, every_pair, every_place], &wish, &library, &sound),
         Mode::PlugIns => plug_ins(&wish, &library, &sound),
     };
     match done {

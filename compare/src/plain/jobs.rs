@@ -10,8 +10,8 @@ pub const ENTRY: usize = 6;
 
 pub struct Entry {
     pub row: u32,
-    kind: u8,
-    value: u32,
+    pub kind: u8,
+    pub value: u32,
 }
 
 impl Entry {

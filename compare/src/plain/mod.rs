@@ -10,6 +10,8 @@ pub mod access;
 pub mod chip;
 pub mod jobs;
 pub mod lead;
+pub mod make;
+pub mod reader;
 pub mod row;
 pub mod tallies;
 
