@@ -1,5 +1,6 @@
 /* The most stack that each call of libotp.a uses, for docs/TIMINGS.md. It is measured: the call runs on a stack of its own that was
-   painted before. Each call is made on a board of 512 burnt rows, by Secure, and is done (number 0). */
+   painted before. Each call is made on a board of 512 burnt rows, by Secure, and is done (number 0). The job that is made burns these 512
+   rows into a blank board. */
 #include <stdio.h>
 #include <string.h>
 #include <ucontext.h>
@@ -8,7 +9,7 @@
 enum { ROWS = 4096, JOB = 7 + 6 * 512, STACK = 65536 };
 
 static uint32_t blank[ROWS], burnt[ROWS], rows[ROWS];
-static uint8_t job[JOB], area[OTP_AREA_BYTES], key[16] = {1};
+static uint8_t job[JOB], area[OTP_AREA_BYTES], out[OTP_JOB_BYTES], key[16] = {1};
 static const otp_note none, all = {.counted = JOB};
 static otp_state state;
 static otp_answer answer;
@@ -30,6 +31,8 @@ static void rehearse(void) { keep(otp_rehearse(rows, ROWS, state, job, JOB, 2700
 static void take_byte(void) { answer = otp_take_chunk(area, sizeof area, none, job, 1).answer; }
 static void take_chunk(void) { answer = otp_take_chunk(area, sizeof area, none, job, JOB).answer; }
 static void end_job(void) { keep(otp_end_job(rows, ROWS, state, area, sizeof area, all)); }
+static void make_job(void) { answer = otp_make_job(rows, ROWS, burnt, ROWS, out, sizeof out); }
+static void next_entry(void) { answer.number = otp_next_entry(job, JOB, 7).number; }
 
 static const struct { const char *name; void (*call)(void); const uint32_t *board; } calls[] = {
     {"reset", reset, burnt}, {"read raw", read_raw, burnt}, {"read ECC", read_ecc, burnt},
@@ -38,6 +41,7 @@ static const struct { const char *name; void (*call)(void); const uint32_t *boar
     {"run a job of 512", run_job, blank}, {"rehearse, 2,700 pulses", rehearse, blank},
     /* What is ended is the job that the chunk before it left in the area. */
     {"take a byte", take_byte, burnt}, {"take a job of 512", take_chunk, burnt}, {"end a job of 512", end_job, blank},
+    {"make a job of 512", make_job, blank}, {"read an entry", next_entry, burnt},
 };
 
 static size_t stack_used(void (*call)(void), const uint32_t *board)

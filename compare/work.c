@@ -1,7 +1,7 @@
 /* Each call of libotp.a on one struct that holds all that it takes, for src/bin/timings/. The face takes the state by value, and a
    call that can change it gives it back by value, so each of these copies it in and, where it comes back, out: what any caller in C
    does. The last two do nothing but that. Before them stands what a screen does with the state. A chunk begins at the note, and leaves
-   it as it was, so that the next does the same. */
+   it as it was, so that the next does the same. A job is made of the rows and the wanted ones, and read by its entries as a printout does. */
 #include "otp.h"
 
 enum { ROWS = 4096, JOB = 7 + 6 * 512, KEY = 16, SINGLE = 100 };
@@ -9,7 +9,9 @@ enum { ROWS = 4096, JOB = 7 + 6 * 512, KEY = 16, SINGLE = 100 };
 /* The same as `Work` in src/bin/timings/work.rs. Aligned as a variable of its own would be: a state that is not is copied twice. */
 typedef struct {
     _Alignas(8) uint32_t rows[ROWS];
+    uint32_t wanted[ROWS];
     uint8_t job[JOB];
+    uint8_t out[OTP_JOB_BYTES];
     uint8_t key[KEY];
     uint8_t area[OTP_AREA_BYTES];
     otp_note note, noted;
@@ -63,6 +65,23 @@ void work_send_job(work *w)
 {
     work_take_chunk(w);
     keep(w, otp_end_job(w->rows, ROWS, w->state, w->area, sizeof w->area, w->noted));
+}
+
+void work_make_job(work *w) { w->answer = otp_make_job(w->rows, ROWS, w->wanted, ROWS, w->out, sizeof w->out); }
+
+/* Every entry of the job: how many there are, and the sum of their values. */
+void work_read_job(work *w)
+{
+    otp_answer read = {0};
+    for (otp_entry e = otp_next_entry(w->job, JOB, 7); e.end == 0; e = otp_next_entry(w->job, JOB, e.at)) {
+        if (e.number != 0) {
+            w->answer = (otp_answer){.number = e.number};
+            return;
+        }
+        read.place++;
+        read.value += e.value;
+    }
+    w->answer = read;
 }
 
 void work_bits_burnt(work *w) { w->answer = (otp_answer){.value = w->state.tallies[w->page]}; }

@@ -15,7 +15,6 @@ const HIGH: usize = 0xf40;
 
 /// A present image, in the longer buffer that the rows lie in, how many rows of it are lent, and the wanted one: none, where the present one
 /// is lent for both.
-#[derive(Clone)]
 pub struct Pair {
     pub present: Vec<u32>,
     pub lent: usize,
@@ -91,7 +90,9 @@ impl Pair {
     pub fn make(&self, bench: &mut Bench, before: &[u8]) -> Result<Option<Vec<u8>>, Difference> {
         bench.load(&self.present);
         let mut out = before.to_vec();
-        let answer = bench.make_job(self.lent, self.wanted.clone(), &mut out)?;
+        let answer = bench
+            .make_job(self.lent, self.wanted.clone(), &mut out)
+            .map_err(|Difference(line)| Difference(format!("{line}; {}", self.shown())))?;
         let it = Made {
             number: answer.number,
             ..self.looked_at(before.len())
@@ -127,17 +128,17 @@ impl Pair {
         if holds {
             return Ok(());
         }
-        let (lent, wanted) = (self.lent, self.wanted().len());
-        let rows: Vec<String> = self.apart().iter().take(9).map(|row| self.row(*row)).collect();
         Err(Difference(format!(
-            "a job made of two images fails: {lent} and {wanted} rows, of which {} differ, {}: this does not hold: {what}",
-            self.apart().len(),
-            rows.join(", ")
+            "a job made of two images fails: {}: this does not hold: {what}",
+            self.shown()
         )))
     }
 
-    fn row(&self, row: usize) -> String {
-        let (now, then) = (self.present[row], self.wanted()[row]);
-        format!("row {row:#05x} from {now:#08x} to {then:#08x}")
+    /// The two for a report: how many rows differ, and the first of these.
+    fn shown(&self) -> String {
+        let (apart, wanted) = (self.apart(), self.wanted());
+        let row = |row: &usize| format!(", {row:#05x} from {:#08x} to {:#08x}", self.present[*row], wanted[*row]);
+        let first: String = apart.iter().take(9).map(row).collect();
+        format!("{} and {} rows, {} differ{first}", self.lent, wanted.len(), apart.len())
     }
 }

@@ -67,7 +67,7 @@ fn one_of(random: &mut Random, word: u32) -> u32 {
     some & some.wrapping_neg()
 }
 
-/// A bit of the row, which it has for that if it has none.
+/// A burnt bit of a row: where there is none, one is burnt in both images.
 fn burnt_bit(random: &mut Random, present: &mut [u32], wanted: &mut [u32], row: usize) -> u32 {
     if present[row] & LARGEST == 0 {
         present[row] |= 1 << random.below(24);
@@ -121,13 +121,14 @@ fn part(random: &mut Random, image: &Image, present: &mut [u32], wanted: &mut [u
     }
 }
 
-/// Images that have something in every row, now and then.
+/// Burns something in every row.
 fn fill(random: &mut Random, present: &mut [u32]) {
     for entry in &mut present[..ROWS] {
         *entry |= random.number() & random.number() & LARGEST;
     }
 }
 
+/// The image, and the same after some steps.
 fn pair(random: &mut Random, image: &Image) -> Pair {
     let mut present = image.rows.clone();
     if random.once_in(16) {
@@ -167,7 +168,6 @@ fn output(random: &mut Random, pair: &Pair) -> Vec<u8> {
 pub fn make(random: &mut Random, bench: &mut Bench, codes: &Codes) -> Result<(), Difference> {
     let image = Image::new(random, codes, true);
     let pair = pair(random, &image);
-    bench.state = states::by_hand(random, &image);
     let Some(bytes) = pair.make(bench, &output(random, &pair))? else {
         return Ok(());
     };

@@ -3,7 +3,6 @@
 use crate::tried::Kind;
 
 /// A pair of images with an output, and the number that came of it. Where the images have not their length the rest says nothing.
-#[derive(Clone, Copy, Debug, Default)]
 pub struct Made {
     pub number: u32,
     /// Whether each image has its length, and whether the one array is lent for both.
@@ -83,15 +82,14 @@ pub const PAIRS: &[Kind<Made>] = &[
         it.number == 11 && it.high == 1
     }),
     ("513 rows apart, then 14", |it| it.number == 14 && it.apart == 513),
-    ("without room for a byte of it, then 12", |it| {
+    ("with room for all but a byte, then 12", |it| {
         it.number == 12 && it.room + 1 == it.need
     }),
-    ("without any room, then 12", |it| it.number == 12 && it.room == 0),
+    ("with no room at all, then 12", |it| it.number == 12 && it.room == 0),
 ];
 
 /// A job that was made and run on its present image: how many entries it has, what came of it, and at how many of its pulses it was cut
 /// before, if it was.
-#[derive(Clone, Copy, Debug)]
 pub struct Run {
     pub entries: usize,
     pub number: u32,

@@ -16,10 +16,11 @@ pub const MOST_CALLS: u64 = 640;
 const SHORT: usize = 120;
 const LONGEST: usize = AREA + 12;
 
-/// Bytes: a file, any bytes, or bytes of which many are entries at every place.
+/// Bytes: a file, any bytes, none, or bytes of which many are entries at every place.
 fn any_bytes(random: &mut Random, image: &Image) -> Vec<u8> {
     let length = random.below(48) as usize;
     match random.below(8) {
+        0 if random.once_in(4) => Vec::new(),
         0 => bytes(random, length),
         1 => (0..length).map(|_| random.pick(&[0, 0, 1, 1, 2, 0x4f, 0xff])).collect(),
         2 => vec![random.pick(&[0, 1]); length],

@@ -8,13 +8,17 @@ use crate::shape::{Answer, LARGEST, ROWS};
 const DATA_END: usize = 0xf40;
 const MOST: usize = 512;
 
+fn too_large(image: &[u32]) -> bool {
+    image.iter().any(|entry| *entry > LARGEST)
+}
+
 pub fn make_job(present: &[u32], wanted: &[u32], out: &mut [u8]) -> Answer {
     answer(made(present, wanted, out))
 }
 
 fn made(present: &[u32], wanted: &[u32], out: &mut [u8]) -> Result<Answer, Refusal> {
     refuse_if(present.len() != ROWS || wanted.len() != ROWS, 1)?;
-    refuse_if(present.iter().chain(wanted).any(|entry| *entry > LARGEST), 3)?;
+    refuse_if(too_large(present) || too_large(wanted), 3)?;
     refuse_if(present.iter().zip(wanted).any(|(now, then)| now & !then != 0), 13)?;
     refuse_if(present[DATA_END..] != wanted[DATA_END..], 11)?;
     let rows = present.iter().zip(wanted).zip(0u16..);

@@ -8,7 +8,9 @@
 //! one chunk with its end not much longer than running it.
 //!
 //! Each call is made on a board of 512 burnt rows, one page of it behind a key that is entered, by Secure but for one read
-//! by the bootloader, and is done. Before it is timed both sides make it once, and answer, state and rows must be the same.
+//! by the bootloader, and is done. A job is made of two images with something burnt in every row, of which 512 are to be burnt further or none,
+//! and a job of 512 entries is read to its end, entry by entry. Before a call is timed both sides make it once, and answer, state, rows and output
+//! must be the same.
 //! `.ci/timings` builds and runs this.
 
 mod work;
@@ -26,7 +28,7 @@ type Plain = fn(&mut Work);
 /// A call: its name, how often it can be made on one work, what it needs of the work, and its two sides.
 struct Timed(&'static str, u32, fn(&mut Work), Library, Plain);
 
-const CALLS: [Timed; 19] = [
+const CALLS: [Timed; 22] = [
     Timed("reset", MANY, as_it_is, work_reset, reset),
     Timed("reset with six keys", MANY, burn_worn_keys, work_reset, reset),
     Timed("read raw", MANY, as_it_is, work_read_raw, read_raw),
@@ -45,6 +47,9 @@ const CALLS: [Timed; 19] = [
     Timed("take a job in a chunk", MANY, as_it_is, work_take_chunk, take_chunk),
     Timed("take 100 bytes singly", MANY, head_taken, work_take_bytes, take_bytes),
     Timed("end a job of 512", ONCE, all_taken, work_end_job, end_job),
+    Timed("make a job of 512", MANY, burnt_further, work_make_job, make_job),
+    Timed("make a job of none", MANY, equal_images, work_make_job, make_job),
+    Timed("read a job of 512", MANY, as_it_is, work_read_job, read_job),
     Timed("bits burnt in a page", MANY, as_it_is, work_bits_burnt, bits_burnt),
 ];
 

@@ -1,7 +1,8 @@
 //! What the timed calls are made on, and the calls on both sides.
 
-use compare::plain::{access, chip, jobs, lead, row, tallies};
-use compare::shape::{Answer, Note, State, AREA, ROWS, SECURE};
+use compare::plain::{access, chip, jobs, lead, make, reader, row, tallies};
+use compare::random::Random;
+use compare::shape::{Answer, Note, State, AREA, LARGEST, ROWS, SECURE};
 
 const ENTRIES: usize = 512;
 const JOB: usize = 7 + 6 * ENTRIES;
@@ -20,7 +21,9 @@ const VOTED_1: u32 = 0x010101;
 #[derive(Clone, PartialEq)]
 pub struct Work {
     pub rows: [u32; ROWS],
+    pub wanted: [u32; ROWS],
     pub job: [u8; JOB],
+    pub out: [u8; JOB],
     pub key: [u8; 16],
     pub area: [u8; AREA],
     pub note: Note,
@@ -71,6 +74,8 @@ sides! {
     work_take_chunk, take_chunk(w) => take_rest(w);
     work_take_bytes, take_bytes(w) => take_singly(w);
     work_end_job, end_job(w) => lead::end_job(&mut w.rows, &mut w.state, &w.area, &w.note);
+    work_make_job, make_job(w) => make::make_job(&w.rows, &w.wanted, &mut w.out);
+    work_read_job, read_job(w) => read_all(&w.job);
     work_bits_burnt, bits_burnt(w) => tallies::count_page(&w.rows, w.page);
 }
 
@@ -90,6 +95,38 @@ fn take_singly(work: &mut Work) -> Answer {
         answer = lead::take_chunk(&mut work.area, &mut work.noted, &work.job[byte..=byte]);
     }
     answer
+}
+
+/// Every entry of the job: how many there are, and the sum of their values.
+fn read_all(job: &[u8]) -> Answer {
+    let mut read = Answer::default();
+    let mut next = reader::next_entry(job, 7);
+    while next.end == 0 {
+        if next.number != 0 {
+            return Answer::refused(next.number);
+        }
+        read.place += 1;
+        read.value = read.value.wrapping_add(next.value);
+        next = reader::next_entry(job, next.at);
+    }
+    read
+}
+
+/// Something is burnt in every row, and the wanted rows are the same.
+pub fn equal_images(work: &mut Work) {
+    let mut random = Random::new(1);
+    work.rows = [0; ROWS].map(|_| 1 + random.below(LARGEST));
+    work.wanted = work.rows;
+}
+
+/// Something is burnt in every row, and in every seventh of the wanted ones more.
+pub fn burnt_further(work: &mut Work) {
+    equal_images(work);
+    let rows = work.rows.iter_mut().zip(&mut work.wanted).step_by(7);
+    for (present, wanted) in rows.take(ENTRIES) {
+        *present &= LARGEST ^ 0x80;
+        *wanted |= 0x80;
+    }
 }
 
 /// So many bytes of the job are taken before.
@@ -129,7 +166,9 @@ fn job() -> [u8; JOB] {
 pub fn board() -> Work {
     let mut work = Work {
         rows: [0; ROWS],
+        wanted: [0; ROWS],
         job: job(),
+        out: [0; JOB],
         key: *b"sixteen byte key",
         area: [0; AREA],
         note: Note::default(),
