@@ -41,20 +41,8 @@ impl Chip for Model {
                 ..kept(answer)
             }),
             Call::EndJob { ref lead } => self.ended(rows, &state, lead),
-            Call::MakeJob { ref wanted, ref out } => {
-                self.made(rows, wanted.as_deref().unwrap_or(rows), out)
-                    .map(|(answer, left)| Outcome {
-                        beside: Beside::Output(left),
-                        ..kept(answer)
-                    })
-            }
-            Call::NextEntry { at, ref job } => {
-                let handed = self.handed(job, at);
-                Ok(Outcome {
-                    beside: Beside::Handed(handed),
-                    ..kept(Answer::refused(handed.number))
-                })
-            }
+            Call::MakeJob { ref wanted, ref out } => self.make_job(rows, wanted, out, kept),
+            Call::NextEntry { at, ref job } => Ok(self.next_entry(at, job, kept)),
         };
         done.unwrap_or_else(|number| Outcome {
             answer: self.refusal(call, rows, number),
@@ -65,6 +53,30 @@ impl Chip for Model {
 }
 
 impl Model {
+    /// A job made of the rows and a wanted image, or of the rows twice.
+    fn make_job(
+        &self,
+        rows: &[u32],
+        wanted: &Option<Vec<u32>>,
+        out: &[u8],
+        kept: impl Fn(Answer) -> Outcome,
+    ) -> Result<Outcome, u32> {
+        let (answer, left) = self.made(rows, wanted.as_deref().unwrap_or(rows), out)?;
+        Ok(Outcome {
+            beside: Beside::Output(left),
+            ..kept(answer)
+        })
+    }
+
+    /// What the reader hands over. Its answer is the number alone.
+    fn next_entry(&self, at: u64, job: &[u8], kept: impl Fn(Answer) -> Outcome) -> Outcome {
+        let handed = self.handed(job, at);
+        Outcome {
+            beside: Beside::Handed(handed),
+            ..kept(Answer::refused(handed.number))
+        }
+    }
+
     /// The state that a refusal leaves: the one that came in. Faults let a refused raw write name its row's page.
     fn refused_state(&self, call: &Call, rows: &[u32], state: State) -> State {
         let counts = self.has(Fault::RefusedCounts);

@@ -93,53 +93,49 @@ fn agree(holds: bool, (bytes, at): (&[u8], u64), what: &str) -> Result<(), Diffe
     )))
 }
 
+/// What must be handed over at a place among so many bytes, where these follow.
+fn due(at: u64, length: u64, rest: &[u8]) -> Handed {
+    let stays = Handed {
+        at,
+        ..Handed::default()
+    };
+    if at >= length {
+        return Handed { end: 1, ..stays };
+    }
+    if fault(rest).is_some() {
+        return Handed { number: 10, ..stays };
+    }
+    let byte = |place: usize| u32::from(rest[place]);
+    Handed {
+        at: at + 6,
+        row: byte(0) + 256 * byte(1),
+        kind: byte(2),
+        value: byte(3) + 256 * (byte(4) + 256 * byte(5)),
+        ..stays
+    }
+}
+
 /// Asks what stands at a place, and holds it to the bytes there.
 pub fn step(bench: &mut Bench, bytes: &[u8], at: u64) -> Result<Handed, Difference> {
     let handed = bench.next_entry(bytes, at)?;
     let length = bytes.len() as u64;
-    let rest = usize::try_from(at)
-        .ok()
-        .and_then(|at| bytes.get(at..))
-        .unwrap_or_default();
-    let (fault, place) = (fault(rest), (bytes, at));
-    let blank = Handed {
-        at,
-        ..Handed::default()
-    };
-    let expected = match fault {
-        _ if at >= length => Handed { end: 1, ..blank },
-        Some(_) => Handed { number: 10, ..blank },
-        None => {
-            let six = |place: usize| u32::from(rest[place]);
-            Handed {
-                at: at + 6,
-                row: six(0) + 256 * six(1),
-                kind: six(2),
-                value: six(3) + 256 * (six(4) + 256 * six(5)),
-                ..blank
-            }
-        }
-    };
-    agree(
-        handed.end == expected.end,
-        place,
-        "the end is said at or past the length, and nowhere else",
-    )?;
-    agree(
-        handed.number == expected.number,
-        place,
-        "10 is for a part entry, a bad kind or ECC value, and for nothing else",
-    )?;
-    agree(
-        handed.at == expected.at,
-        place,
-        "the place moves behind an entry, and stays otherwise",
-    )?;
-    agree(
-        handed == expected,
-        place,
-        "row, kind and value are those of the six bytes, or 0",
-    )?;
+    let rest = usize::try_from(at).ok().and_then(|at| bytes.get(at..));
+    let rest = rest.unwrap_or_default();
+    let (due, fault) = (due(at, length, rest), fault(rest));
+    for (holds, what) in [
+        (handed.end == due.end, "the end is said at or past the length alone"),
+        (
+            handed.number == due.number,
+            "10 is for a part entry, a bad kind or ECC value alone",
+        ),
+        (
+            handed.at == due.at,
+            "the place moves behind an entry, and stays otherwise",
+        ),
+        (handed == due, "row, kind and value are those of the six bytes, or 0"),
+    ] {
+        agree(holds, (bytes, at), what)?;
+    }
     bench.places.note(&Step {
         at,
         length,
