@@ -1,8 +1,9 @@
 /* Calls made by chance on libotp.a, so that two builds of it can be compared: one source, one seed, the same lines on every machine.
 
    Sequences of calls on one chip, with the state carried on: rows, keys and locks are burnt by the calls themselves and wear, and now and
-   then an entry, a state, a note or an argument is put in that no chip would have. Some jobs come in chunks, cut anywhere. A checksum goes on
-   over every answer, state and row, and over every note and area of a chunk or an end. It is printed every EVERY calls, so two outputs part
+   then an entry, a state, a note or an argument is put in that no chip would have. Some jobs come in chunks, cut anywhere, and some are made
+   of the rows and of wanted ones, and read. A checksum goes on over every answer, state and row, over every note and area of a chunk or an
+   end, over every output of a making, and over every entry. It is printed every EVERY calls, so two outputs part
    within as many calls of where the builds do. At the end comes the tally of tally.h. Compile with -DEVERY=1 to see the very call. */
 #include "chance.h"
 #include "kept.h"
@@ -100,6 +101,40 @@ static void any_chunk(void)
         keep(END_JOB, NO_CALLER, otp_end_job(rows, some_length(), state, area, lent, note));
 }
 
+/* Reads some bytes from a place on, at most so many entries. */
+static void read_entries(const uint8_t *bytes, uint64_t length, uint64_t at, uint32_t most)
+{
+    do {
+        keep_entry(otp_next_entry(bytes, length, at));
+        at = entry.at;
+    } while (--most > 0 && entry.number == OTP_DONE && !entry.end);
+}
+
+/* Makes the job of the rows and of wanted ones, and where there is one reads it, and perhaps runs it. */
+static void make_job(void)
+{
+    uint64_t length = some_length(), other = some_length(), room = some_room();
+    memcpy(wanted, rows, sizeof wanted);
+    some_wanted(wanted);
+    if (once_in(2))
+        fill(out, sizeof out);
+    keep_answer(MAKE_JOB, NO_CALLER, otp_make_job(rows, length, wanted, other, out, room));
+    if (answer.number != OTP_DONE)
+        return;
+    uint32_t bytes = answer.value;
+    read_entries(out, bytes, HEAD, 4);
+    if (once_in(2))
+        keep(RUN_JOB, NO_CALLER, otp_run_job(rows, OTP_ROWS, state, out, bytes));
+}
+
+/* Reads some job, good or bad, from its first entry or from any place. */
+static void read_job(void)
+{
+    uint32_t bytes = some_job();
+    uint64_t at = once_in(3) ? below(bytes + 8) : once_in(20) ? UINT64_MAX - below(8) : HEAD;
+    read_entries(job, bytes, at, 3);
+}
+
 static void some_lock(void)
 {
     uint32_t caller = some_caller(), domain = some_domain(), page = some_page();
@@ -111,7 +146,7 @@ static void some_lock(void)
 
 static void some_call(void)
 {
-    switch (below(18)) {
+    switch (below(20)) {
     case 0:
         keep(RESET, NO_CALLER, otp_reset(rows, some_length(), state));
         break;
@@ -133,9 +168,15 @@ static void some_call(void)
         any_chunk();
         break;
     case 8:
+        make_job();
+        break;
     case 9:
+        read_job();
+        break;
     case 10:
     case 11:
+    case 12:
+    case 13:
         some_write();
         break;
     default:

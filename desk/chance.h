@@ -1,4 +1,5 @@
-/* What desk/calls.c leaves to chance: the arguments of a call, jobs, and the chunks that they come in. The same on every machine. */
+/* What desk/calls.c leaves to chance: the arguments of a call, jobs, the chunks that they come in, and what is wanted of rows. The same on
+   every machine. */
 #ifndef CHANCE_H
 #define CHANCE_H
 
@@ -160,6 +161,50 @@ static uint32_t some_piece(uint32_t left)
     uint32_t few = once_in(2) ? EDGE(0, 1, ENTRY - 1, ENTRY, HEAD) : below(40);
     return few > left || once_in(4) ? left : few;
 }
+
+/* Burns some rows of an image further, below a bound: each gets the lowest bit that it lacks. */
+static void burn_further(uint32_t *image, uint32_t count, uint32_t bound)
+{
+    for (uint32_t i = 0; i < count; i++) {
+        uint32_t row = once_in(2) ? often_used() : below(bound);
+        image[row] |= image[row] + 1;
+    }
+}
+
+/* Burns each of the first rows of an image further. */
+static void burn_first(uint32_t *image, uint32_t count)
+{
+    for (uint32_t row = 0; row < count; row++)
+        image[row] |= (image[row] + 1) & 0xffffff;
+}
+
+/* What is wanted of rows: the same, some of them burnt further, one from 0xf40 up, one with a bit lost, about 512 of them, or one too large. */
+static void some_wanted(uint32_t *image)
+{
+    uint32_t row = below(OTP_ROWS), place = below(24), kept = FIRST_KEPT_ROW + below(OTP_ROWS - FIRST_KEPT_ROW);
+    switch (below(8)) {
+    case 0:
+        break;
+    case 1:
+        image[kept] |= 1u << place;
+        break;
+    case 2:
+        row = often_used();
+        image[row] &= image[row] - 1;
+        break;
+    case 3:
+        burn_first(image, 510 + below(5));
+        break;
+    case 4:
+        image[row] |= 0x1000000;
+        break;
+    default:
+        burn_further(image, below(8), FIRST_KEPT_ROW);
+    }
+}
+
+/* How much of an output is lent: too little, enough for a few entries, or enough for all. */
+static uint64_t some_room(void) { return once_in(4) ? below(60) : EDGE(OTP_JOB_BYTES - 1, OTP_JOB_BYTES, MOST_LENT); }
 
 /* Any note, which may be one that no chunk gives. */
 static otp_note some_note(void)

@@ -24,6 +24,11 @@ static otp_answer answer;
 static uint8_t area[MOST_LENT + PAST];
 static otp_note note;
 
+/* The chip as it is to be, the output of a making, and what was handed over last. */
+static uint32_t wanted[OTP_ROWS + PAST];
+static uint8_t out[MOST_LENT + PAST];
+static otp_entry entry;
+
 static uint32_t made, checksum = 2166136261u;
 
 /* The checksum, taken on by a number or by the bytes of a struct, which have no gaps. */
@@ -39,23 +44,40 @@ static void sum_bytes(const void *bytes, size_t size)
         sum(((const uint8_t *)bytes)[i]);
 }
 
-static void sum_rows(void)
+static void sum_image(const uint32_t *image)
 {
     for (uint32_t row = 0; row < OTP_ROWS + PAST; row++)
-        sum(rows[row]);
+        sum(image[row]);
 }
 
-/* Takes on all that a call left. The area and the note are no other call's. */
+/* Field by field: a struct with a gap behind its last. */
+static void sum_entry(void)
+{
+    sum_bytes(&entry.at, sizeof entry.at);
+    sum(entry.number);
+    sum(entry.end);
+    sum(entry.row);
+    sum(entry.kind);
+    sum(entry.value);
+}
+
+/* Takes on all that a call left. The area and the note are no other call's, nor are the wanted rows and the output, nor an entry. */
 static void took(uint32_t kind, uint32_t caller)
 {
     sum(kind);
     sum_bytes(&answer, sizeof answer);
     sum_bytes(&state, sizeof state);
-    sum_rows();
+    sum_image(rows);
     if (kind == TAKE_CHUNK || kind == END_JOB) {
         sum_bytes(&note, sizeof note);
         sum_bytes(area, sizeof area);
     }
+    if (kind == MAKE_JOB) {
+        sum_image(wanted);
+        sum_bytes(out, sizeof out);
+    }
+    if (kind == NEXT_ENTRY)
+        sum_entry();
     tally(kind, caller, &answer);
     if (++made % EVERY == 0)
         printf("%6u calls, checksum %08x\n", (unsigned)made, (unsigned)checksum);
@@ -73,6 +95,15 @@ static void keep_answer(uint32_t kind, uint32_t caller, otp_answer given)
 {
     answer = given;
     took(kind, caller);
+}
+
+static void keep_entry(otp_entry given)
+{
+    otp_answer none = {0};
+    entry = given;
+    none.number = given.number;
+    tally_entry(&given);
+    keep_answer(NEXT_ENTRY, NO_CALLER, none);
 }
 
 static void keep_taken(otp_taken taken)

@@ -2,7 +2,8 @@
    emulator counts the instructions, and the call is made once more on a stack of its own that was painted before. Each call is made by
    Secure, but for one read by the bootloader, and is done (number 0). What C does to pass the state and to take it back is part of the call.
    The job of 512 comes in one chunk too, which its end follows; and of its bytes one by one, in a hundred calls, the first hundred of its
-   entries and the last hundred of all. The last two are no calls: how a screen comes by the bits burnt in a page of the board, with the
+   entries and the last hundred of all. A job is made of the full chip and of one with 512 rows burnt further, and of two that are equal,
+   and is read entry by entry. The last two are no calls: how a screen comes by the bits burnt in a page of the board, with the
    tallies and without.
 
    The board: 512 rows burnt by a job, key 1 burnt and valid, one page behind it, and the key entered. The full chip: every row below
@@ -29,8 +30,8 @@ enum {
 };
 
 static const uint32_t blank[OTP_ROWS];
-static uint32_t board[OTP_ROWS], full[OTP_ROWS], rows[OTP_ROWS];
-static uint8_t job[JOB], area[OTP_AREA_BYTES], key[OTP_KEY_BYTES];
+static uint32_t board[OTP_ROWS], full[OTP_ROWS], further[OTP_ROWS], rows[OTP_ROWS];
+static uint8_t job[JOB], area[OTP_AREA_BYTES], out[OTP_JOB_BYTES], key[OTP_KEY_BYTES];
 static otp_state board_state, state;
 static otp_note note;
 static otp_answer answer;
@@ -81,6 +82,20 @@ static void take_hundred(void)
         take(1);
 }
 
+static void make_job(void) { answer = otp_make_job(rows, OTP_ROWS, further, OTP_ROWS, out, sizeof out); }
+static void make_none(void) { answer = otp_make_job(rows, OTP_ROWS, rows, OTP_ROWS, out, sizeof out); }
+
+/* Reads one entry, and all of them. */
+static void read_entry(void) { answer.number = otp_next_entry(job, JOB, HEAD).number; }
+
+static void read_job(void)
+{
+    otp_entry entry = otp_next_entry(job, JOB, HEAD);
+    while (!entry.end && entry.number == OTP_DONE)
+        entry = otp_next_entry(job, JOB, entry.at);
+    answer.number = entry.number;
+}
+
 /* A screen's question, how many bits of a page are burnt: looked up, and as it would be counted without tallies. */
 static void burnt(uint32_t bits)
 {
@@ -125,6 +140,10 @@ static const struct {
     {"take and end a job", take_and_end, blank, 0},
     {"first 100 entry bytes", take_hundred, blank, HEAD},
     {"last 100 of 3,079 bytes", take_hundred, blank, JOB - HUNDRED},
+    {"make a job of 512", make_job, full, 0},
+    {"make a job of none", make_none, full, 0},
+    {"read an entry", read_entry, board, 0},
+    {"read a job of 512", read_job, board, 0},
     {"bits burnt, looked up", look_up, board, 0},
     {"bits burnt, counted", count, board, 0},
 };
@@ -195,6 +214,9 @@ static void make_full(void)
     burn_worn_keys();
     burn_locks();
     memcpy(full, rows, sizeof rows);
+    memcpy(further, rows, sizeof rows);
+    for (uint32_t i = 0; i < ENTRIES; i++)
+        further[7 * i] |= further[7 * i] + 1;
 }
 
 static void prepare(const uint32_t *chip, uint32_t taken)

@@ -1,5 +1,5 @@
 /* What desk/calls.c counts: how often each call gave each number, how often each caller was done and was refused with 7, how often an ECC
-   read said each condition and a chunk each early word, and how often a call that burns raised a page's tally, held one to a full page, or
+   read said each condition, a chunk each early word and the reader the end, and how often a call that burns raised a page's tally, held one to a full page, or
    brought one down. One that can be given and never was is an error, and so is a number or a word that the call cannot give. */
 #ifndef TALLY_H
 #define TALLY_H
@@ -9,8 +9,8 @@
 #include <stdio.h>
 #include <string.h>
 
-enum { RESET, READ_RAW, READ_ECC, READ_VOTE, WRITE_RAW, WRITE_ECC, ADVANCE, SHOW, ENTER_KEY, RUN_JOB, REHEARSE, TAKE_CHUNK, END_JOB, KINDS };
-enum { NUMBERS = 13 };
+enum { RESET, READ_RAW, READ_ECC, READ_VOTE, WRITE_RAW, WRITE_ECC, ADVANCE, SHOW, ENTER_KEY, RUN_JOB, REHEARSE, TAKE_CHUNK, END_JOB, MAKE_JOB, NEXT_ENTRY, KINDS };
+enum { NUMBERS = 15 };
 
 /* Secure, Non-secure and the bootloader. A call that takes no caller is made by none of them. */
 enum { CALLERS = 3, NO_CALLER = CALLERS };
@@ -33,6 +33,8 @@ static const struct {
     {"rehearse", "01ab739", {"", "", ""}},
     {"take chunk", "0c", {"", "", ""}},
     {"end job", "01cab739", {"", "", ""}},
+    {"make job", "013dbec", {"", "", ""}},
+    {"next entry", "0a", {"", "", ""}},
 };
 
 /* What a done ECC read can say of its row. A row with a worn flag is never inverted. */
@@ -55,6 +57,9 @@ enum { WORDS = sizeof words / sizeof words[0] };
 
 static uint32_t gave[KINDS][NUMBERS], gave_to[CALLERS][KINDS][NUMBERS], said[CONDITIONS], warned[WORDS];
 
+/* How often the reader handed over an entry, and how often it said the end. */
+static uint32_t handed, ended;
+
 static void tally_condition(const otp_answer *answer)
 {
     for (uint32_t i = 0; i < CONDITIONS; i++)
@@ -65,6 +70,12 @@ static void tally_word(const otp_answer *answer)
 {
     for (uint32_t i = 0; i < WORDS; i++)
         warned[i] += answer->value == words[i];
+}
+
+static void tally_entry(const otp_entry *entry)
+{
+    handed += entry->number == OTP_DONE && !entry->end;
+    ended += entry->end;
 }
 
 static void tally(uint32_t kind, uint32_t caller, const otp_answer *answer)
@@ -123,7 +134,7 @@ static bool told_numbers(uint32_t kind)
     bool all = true;
     printf("%-10s", kinds[kind].name);
     for (uint32_t number = 0; number < NUMBERS; number++) {
-        bool can = strchr(kinds[kind].numbers, "0123456789abc"[number]) != NULL;
+        bool can = strchr(kinds[kind].numbers, "0123456789abcde"[number]) != NULL;
         printf(" %5u", (unsigned)gave[kind][number]);
         all = all && can == (gave[kind][number] != 0);
     }
@@ -168,6 +179,13 @@ static bool told_words(void)
     return all && done == gave[TAKE_CHUNK][OTP_DONE];
 }
 
+/* How often the reader handed over an entry and said the end, and whether it did each. */
+static bool told_entries(void)
+{
+    printf("handed over %5u   end %5u\n", (unsigned)handed, (unsigned)ended);
+    return handed != 0 && ended != 0 && handed + ended == gave[NEXT_ENTRY][OTP_DONE];
+}
+
 static bool all_told(void)
 {
     bool all = true;
@@ -178,6 +196,7 @@ static bool all_told(void)
     for (uint32_t i = 0; i < CONDITIONS; i++)
         all = told_condition(i) && all;
     all = told_words() && all;
+    all = told_entries() && all;
     for (uint32_t kind = 0; kind < KINDS; kind++)
         all = (!burns(kind) || told_changes(kind)) && all;
     if (!all)
