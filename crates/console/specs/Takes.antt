@@ -2,7 +2,7 @@
 use Prim.Native.Nat.{ℕ}
 use mathlib.Core.Bool.{true, false}
 use Rattle.console.specs.declared.takes.Role.{Role}
-use Rattle.console.specs.declared.takes.Role.the-variants.{Image}
+use Rattle.console.specs.declared.takes.Role.the-variants.{Image, Other}
 use Rattle.console.specs.declared.takes.Takes.{Takes}
 
 -- so many words, and no option
@@ -10,6 +10,7 @@ abbrev pub words : Role → Role → ℕ → ℕ → Takes
 words one two fewest greatest = record {
   first = one;
   second = two;
+  third = Other;
   least = fewest;
   most = greatest;
   key = false;
@@ -23,6 +24,7 @@ abbrev pub onImage : Role → ℕ → ℕ → Takes
 onImage two fewest greatest = record {
   first = Image;
   second = two;
+  third = Other;
   least = fewest;
   most = greatest;
   key = true;
@@ -31,11 +33,26 @@ onImage two fewest greatest = record {
   ways = false;
 }
 
+-- besides, what a third word is
+abbrev pub withThird : Takes → Role → Takes
+withThird takes three = record {
+  first = takes .first;
+  second = takes .second;
+  third = three;
+  least = takes .least;
+  most = takes .most;
+  key = takes .key;
+  save = takes .save;
+  replace = takes .replace;
+  ways = takes .ways;
+}
+
 -- besides, what a read is asked with
 abbrev pub withWays : Takes → Takes
 withWays takes = record {
   first = takes .first;
   second = takes .second;
+  third = takes .third;
   least = takes .least;
   most = takes .most;
   key = takes .key;
@@ -49,6 +66,7 @@ abbrev pub withReplace : Takes → Takes
 withReplace takes = record {
   first = takes .first;
   second = takes .second;
+  third = takes .third;
   least = takes .least;
   most = takes .most;
   key = takes .key;
@@ -62,6 +80,7 @@ abbrev pub withSave : Takes → Takes
 withSave takes = record {
   first = takes .first;
   second = takes .second;
+  third = takes .third;
   least = takes .least;
   most = takes .most;
   key = takes .key;

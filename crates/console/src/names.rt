@@ -26,8 +26,10 @@ fn role_line(role: Role, place: usize) {
 pub(crate) fn lines(words: Words, takes: Takes) {
     let first = takes.first;
     let second = takes.second;
+    let third = takes.third;
     role_line(first, words.first);
     role_line(second, words.second);
+    role_line(third, words.third);
     if words.save != 0 {
         line(b"writes ", words.save, b"");
     }

@@ -1,4 +1,4 @@
-// What a command takes: how many words that follow no option, what its first two are, and which options.
+// What a command takes: how many words that follow no option, what each of them is, and which options.
 ghost use mathlib.Core.Path.{_≡_};
 ghost use Rattle.console.specs.Takes as spec;
 
@@ -16,6 +16,7 @@ pub enum Role {
 pub struct Takes {
     pub first: Role,
     pub second: Role,
+    pub third: Role,
     pub least: usize,
     pub most: usize,
     pub key: bool,
@@ -32,6 +33,7 @@ impl Takes {
         Takes {
             first,
             second,
+            third: Role::Other,
             least,
             most,
             key: false,
@@ -48,12 +50,32 @@ impl Takes {
         Takes {
             first: Role::Image,
             second,
+            third: Role::Other,
             least,
             most,
             key: true,
             save: false,
             replace: false,
             ways: false,
+        }
+    }
+
+    // Besides, what a third word is.
+    pub fn with_third(self, third: Role) -> Takes
+        ensures { λ r. ⌜ r ≡ spec.withThird self third ⌝ }
+    {
+        let first = self.first;
+        let second = self.second;
+        Takes {
+            first,
+            second,
+            third,
+            least: self.least,
+            most: self.most,
+            key: self.key,
+            save: self.save,
+            replace: self.replace,
+            ways: self.ways,
         }
     }
 
