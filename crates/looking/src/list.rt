@@ -11,10 +11,12 @@ use console::usage::Given;
 use console::usage::asked;
 use form::entries::Entry;
 use form::entries::count_of;
-use form::entries::entry_at;
 use form::entries::version_of;
 use form::faults::fault_number;
 use form::faults::fault_of;
+use reader::handing::Found;
+use reader::readers::FIRST_ENTRY;
+use reader::readers::next_entry;
 use row::coding::inverted;
 use row::coding::plain;
 use screen::print;
@@ -58,10 +60,17 @@ fn first_line(version: u32) {
     }
 }
 
+// The reader hands over one entry at a time, to the end of the bytes.
 fn lines(job: &[u8]) {
-    let count = count_of(job);
-    for place in 0..count {
-        entry_line(entry_at(job, place));
+    let mut at = FIRST_ENTRY;
+    loop {
+        let handed = next_entry(job, at);
+        let found = handed.found;
+        let Found::Entry(entry) = found else {
+            return;
+        };
+        entry_line(entry);
+        at = handed.at;
     }
 }
 
