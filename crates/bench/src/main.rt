@@ -1,5 +1,5 @@
 // The bench crew's command: rehearse a job on an image of a chip or receive one, read a row, show the pages, dump or compare images, list worn
-// rows, list or write a job, show the code of a value.
+// rows, list or write a job, make one of two images, show the code of a value.
 // The script ./otp at the root runs it, and turns the last line that it writes into an exit status.
 use console::ended;
 use console::usage;
@@ -12,6 +12,7 @@ use looking::compare;
 use looking::dump;
 use looking::list;
 use looking::wear;
+use making::make;
 use reading::pages;
 use reading::read;
 use receiving::receive;
@@ -76,6 +77,10 @@ fn main() {
     }
     if word::is(command, b"write") {
         write::run();
+        return;
+    }
+    if word::is(command, b"make") {
+        make::run();
         return;
     }
     if asks_for_help(command) {

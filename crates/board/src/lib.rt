@@ -3,4 +3,4 @@
 pub mod begin;
 pub mod lock_rows;
 pub mod range;
-mod reset_refusals;
+pub mod reset_refusals;

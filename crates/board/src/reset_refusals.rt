@@ -1,4 +1,4 @@
-// A refused reset: the row whose entry is too large, and what that says of the image (document 01, "Locks").
+// An image with an entry that is too large: its row, what that says of the image, and a reset that is refused for it (document 01, "Locks").
 use chip::slices::row_at;
 use latch::resetting::all_in_range;
 use screen::print;
@@ -32,10 +32,9 @@ fn all_low_bytes_zero(rows: &[u32]) -> bool {
     true
 }
 
-pub fn lines(number: u32, rows: &[u32]) {
+// ", row 0x005", what it holds, and what that says of the image.
+pub fn entry_lines(rows: &[u32]) {
     let row = first_too_large(rows);
-    print::number(number);
-    print::text(b": the reset of this image is refused: an entry above 16,777,215");
     of_row(row);
     print::text(b"\n   it is ");
     print::hexadecimal(row_at(rows, row), 8);
@@ -43,4 +42,10 @@ pub fn lines(number: u32, rows: &[u32]) {
     if all_low_bytes_zero(rows) {
         print::line(b"   every entry has a low byte of 0, as in a dump of the other byte order");
     }
+}
+
+pub(crate) fn lines(number: u32, rows: &[u32]) {
+    print::number(number);
+    print::text(b": the reset of this image is refused: an entry above 16,777,215");
+    entry_lines(rows);
 }

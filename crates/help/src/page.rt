@@ -99,6 +99,16 @@ fn on_other_files() {
     print::line(
         b"    lock rows, from 0xf80 up. It writes over a job that is there only with --replace.",
     );
+    print::line(b"./otp make PRESENT WANTED JOB [--replace]");
+    print::line(
+        b"    Makes the job that burns the image PRESENT into the image WANTED: a raw entry for each row below",
+    );
+    print::line(
+        b"    0xf40 that differs, at most 512. Where a burnt bit would be lost or a row from 0xf40 up differs,",
+    );
+    print::line(
+        b"    it names the first such row. It writes over a job that is there only with --replace.",
+    );
     print::line(b"./otp code VALUE");
     print::line(b"    The code of a value, and the two rows that hold it.");
     print::line(b"./otp help");

@@ -2,7 +2,7 @@
 use screen::print;
 
 // The numbers that have words.
-const LAST: u32 = 12;
+const LAST: u32 = 14;
 
 // The words, where the number is the one that they are of.
 fn one(number: u32, own: u32, words: &[u8]) {
@@ -38,7 +38,9 @@ pub fn words(number: u32) {
     one(number, 9, b"neither polarity fits");
     one(number, 10, b"job bytes malformed");
     one(number, 11, b"job row out of place");
-    one(number, 12, b"the lent area is shorter than 3,079 bytes");
+    one(number, 12, b"the lent area is too short");
+    one(number, 13, b"a burnt bit that the wanted row lacks");
+    one(number, 14, b"more than 512 rows differ");
     if LAST < number {
         print::text(b"a number that has no words here");
     }
