@@ -4,7 +4,8 @@
  * On an image of a blank chip it keeps a screen's width in a row, shows how much of the page is burnt, reads the width with a worn bit and
  * with a worn flag, and locks its page. On a second blank chip it burns the bootloader's lock, so that a USB loader reads the width and
  * cannot write it. On a third it rehearses a job up to a power cut, and then runs it. On a fourth the same job comes over a serial lead, a few
- * bytes at a time. It prints what happens, and exits 1 where that is not what document 01 and its requests say.
+ * bytes at a time. On a fifth a job is made of the rows as they are and as they are to be, and is read and run. It prints what happens, and
+ * exits 1 where that is not what document 01 and its requests say.
  *
  *     rt staticlib otp
  *     cc -std=c11 -Iinclude examples/desk.c target/staticlib/libotp.a -o target/desk
