@@ -1,0 +1,5 @@
+pub mod Bits
+pub mod Decoding
+pub mod Rising
+pub mod Ahead
+pub mod Passing
