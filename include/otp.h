@@ -17,12 +17,12 @@
  * What goes in
  *
  * rows      The rows, row 0 first, lent for the call: 4,096 numbers, each at most 0xffffff. A length is a count of elements, not of
- *           bytes, and has 64 bits on every machine. A call that takes the rows as const only reads them. A write, a job or a
- *           rehearsal burns them in place.
+ *           bytes, and has 64 bits on every machine. A call that takes the rows as const only reads them. A write, a job, a
+ *           rehearsal or a repair burns them in place.
  * state     What the hardware latches at reset, by value. Begin with one of all zeros, `otp_state state = OTP_START;`, and otp_reset.
  *           It locks no page and holds no key, so call nothing else before that reset is done. A call that can change the state
- *           gives it back: keep that one. A write, a job or a rehearsal gives it back with nothing changed but the tallies, since what
- *           is burnt has no other effect before the next reset. Any contents are allowed, if each bool is 0 or 1.
+ *           gives it back: keep that one. A write, a job, a rehearsal or a repair gives it back with nothing changed but the tallies,
+ *           since what is burnt has no other effect before the next reset. Any contents are allowed, if each bool is 0 or 1.
  * caller    OTP_SECURE, OTP_NONSECURE or OTP_BOOTLOADER. The library believes what it is told. The bootloader runs as Secure, so it may
  *           never do what Secure may not: its read needs its own level, Secure's and that of the keys to be at most OTP_READ_ONLY, and
  *           its write needs all three to be OTP_READ_WRITE.
@@ -34,21 +34,23 @@
  * present   Two images of a chip's rows, lent to otp_make_job: the one that is, and the one that is to be. They may be the same array.
  * wanted
  * out       Where otp_make_job writes its job: OTP_JOB_BYTES have room for every job.
+ * list      The rows that otp_repair looks at: rising, and below 0xf40.
+ * report    Where it writes what it found, an entry for each listed row: at least as many entries as the list has.
  * at        A place in a job's bytes, as otp_next_entry takes it and gives it back. Any number is allowed; begin with 7.
  *
  * A number that is too large is refused, and so is a length that is wrong. What no call can see is left to the caller: a pointer is
  * never NULL, also where the length is 0, it points to as many elements as the length says, and what a call writes (the rows, the area,
- * the output) overlaps nothing else that is lent to it.
+ * the output, the report) overlaps nothing else that is lent to it.
  *
  *
  * The numbers that come out
  *
  * Each answer has a number: OTP_DONE, or one of the refusals 1 to 14 that are listed below.
  * Where several apply, the first in this order is given: 1, 4, 2, 5, 6, 7, 3, 8, 9. A job has its own order, given at otp_run_job, and
- * so has the making of one, given at otp_make_job.
+ * so have the making of one, given at otp_make_job, and a repair, given at otp_repair.
  *
- * Any number but 0 is a refusal, and a refusal changes nothing: every row, the state, the area, the note, the output and a place in a job
- * are as they were. Its value, condition, bit, polarity, disagree and pulses are 0, and so is its place, but for a job's 7, 3 and 9.
+ * Any number but 0 is a refusal, and a refusal changes nothing: every row, the state, the area, the note, the output, the report and a
+ * place in a job are as they were. Its value, condition, bit, polarity, disagree and pulses are 0, and so is its place, but for a job's 7, 3 and 9.
  *
  *
  * How much of a page is burnt
@@ -57,9 +59,9 @@
  * nothing. It goes by row number for pages 62 and 63 too, and not by the page that a lock row locks. A reset counts every row. It is
  * right from then on, as long as the rows change only through these calls; a caller who alters the rows by himself must reset.
  *
- * A write, a job or a rehearsal that is done leaves each page that it names at the lesser of OTP_PAGE_BITS and old plus new bits. It
- * names a page if a row of that page is written or stands in the job, whether or not a bit of it is new, and whether or not a rehearsal
- * came so far. It leaves all other pages as they were, and so do every refusal and every other call but a reset. Any tallies may come in.
+ * A write, a job, a rehearsal or a repair that is done leaves each page that it names at the lesser of OTP_PAGE_BITS and old plus new
+ * bits. It names a page if a row of that page is written, or stands in the job or the list, whether or not a bit of it is new, and
+ * whether or not a rehearsal came so far. It leaves all other pages as they were, and so do every refusal and every other call but a reset. Any tallies may come in.
  */
 #ifndef OTP_H
 #define OTP_H
@@ -123,10 +125,21 @@ enum {
     OTP_REFUSED_CODE = 8,     /* ECC read: no value has a code within one bit */
     OTP_REFUSED_FIT = 9,      /* ECC write: neither polarity fits over the bits already set */
     OTP_REFUSED_JOB = 10,     /* the job's bytes are malformed */
-    OTP_REFUSED_ORDER = 11,   /* a job's row is out of place, by the rule of its version; or two images differ in a row from 0xf40 up */
-    OTP_REFUSED_ROOM = 12,    /* the lent area is shorter than 3,079 bytes, or the output shorter than the job */
+    OTP_REFUSED_ORDER = 11,   /* a job's row is out of place, by the rule of its version; or two images differ in a row from 0xf40 up;
+                                 or a listed row is from 0xf40 up, or not above the one before it */
+    OTP_REFUSED_ROOM = 12,    /* the lent area is shorter than 3,079 bytes, the output shorter than the job, or the report shorter
+                                 than the list */
     OTP_REFUSED_LOST = 13,    /* a row has a burnt bit that the wanted one lacks */
     OTP_REFUSED_MANY = 14     /* more than 512 rows differ */
+};
+
+/* What a repair finds of a row: a report entry is one of these, and of a mended row 256 x the bit besides. */
+enum {
+    OTP_ROW_CLEAN = 0,        /* it reads clean */
+    OTP_ROW_MENDED = 1,       /* it had lost a 1 among bits 21:0, which is burnt now: it reads clean, as the value that it had */
+    OTP_ROW_WORN = 2,         /* it decodes, and no burning mends it: a 1 too many, or the flag bits disagree */
+    OTP_ROW_DAMAGED = 3,      /* it does not decode */
+    OTP_ROW_NOT_PERMITTED = 4 /* Secure may not write it, and nothing more is said of it */
 };
 
 /* What every call answers. A field that a call has no use for is 0. */
@@ -140,7 +153,7 @@ typedef struct {
     uint32_t disagree;  /* of an ECC read: 1 where bits 23 and 22 of the row disagree, else 0 */
     uint32_t place;     /* of a job: entries are counted from 0. Done, how many leading entries stand whole; refused with 7, 3 or 9,
                            the entry that is refused */
-    uint32_t pulses;    /* of a write, a job or a rehearsal: how many bits it newly set */
+    uint32_t pulses;    /* of a write, a job, a rehearsal or a repair: how many bits it newly set */
 } otp_answer;
 
 /* A key as reset latched it. Keys 1 to 6 are keys[0] to keys[5] of the state. */
@@ -284,6 +297,13 @@ otp_outcome otp_write_raw(uint32_t *rows, uint64_t rows_len, otp_state state, ui
 /* Burns a value of 16 bits with its code into a row: plain if the bits already set allow it, otherwise inverted.
    Numbers 0, 1, 4, 2, 5, 6, 7, 3, 9. */
 otp_outcome otp_write_ecc(uint32_t *rows, uint64_t rows_len, otp_state state, uint32_t caller, uint32_t row, uint32_t value);
+
+/* Repairs listed rows as Secure: burns the lost 1 of each row that reads repaired, whose flag bits agree, and that lacks the repaired bit
+   as it is stored, in its own polarity. That is one pulse a row, lowest row first. The report says of each listed row what was found of it
+   before: `report[i] % 256` is one of OTP_ROW_CLEAN to OTP_ROW_NOT_PERMITTED, `report[i] / 256` the bit of a mended row, as it is numbered
+   in the row, and 0 of any other. Its entries past the list are left. Only mended rows alter, and a second pass mends nothing. Where an
+   entry that is too large stands in a row that Secure may not write, that row is OTP_ROW_NOT_PERMITTED. Numbers 0, 1, 11, 12, 3. */
+otp_outcome otp_repair(uint32_t *rows, uint64_t rows_len, otp_state state, const uint32_t *list, uint64_t list_len, uint32_t *report, uint64_t report_len);
 
 /* Advances the lock of a page in a domain, OTP_SECURE or OTP_NONSECURE, to a level, until the next reset. An equal or lower level is
    done and changes nothing. Secure may advance both of these, Non-secure only its own, and the bootloader none. The bootloader's own lock

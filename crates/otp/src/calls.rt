@@ -6,6 +6,7 @@ ghost use Rattle.latch.specs.Resetting as resetting;
 ghost use Rattle.access.specs.Reads as reads;
 ghost use Rattle.access.specs.Votes as votes;
 ghost use Rattle.burn.specs.Writes as writes;
+ghost use Rattle.repair.specs.Pass as pass;
 ghost use Rattle.job.specs.Jobs as jobs;
 ghost use Rattle.lead.specs.Ending as ending;
 ghost use Rattle.lead.specs.Taking as taking;
@@ -37,6 +38,7 @@ use lock::calls::enter_key;
 use lock::calls::show;
 use maker::making::make_job;
 use reader::readers::next_entry;
+use repair::pass::repair;
 
 // Latches what the rows hold.
 #[no_mangle]
@@ -108,6 +110,23 @@ pub extern "C" fn otp_write_ecc(
         ⌝ }
 {
     flat_outcome(write_ecc(rows, state, caller, row, value))
+}
+
+// Burns the lost 1 of each listed row that can be mended, and reports what was found of each.
+#[no_mangle]
+pub extern "C" fn otp_repair(
+    rows: &mut [u32],
+    state: State,
+    list: &[u32],
+    report: &mut [u32],
+) -> FlatOutcome
+    ensures { λ r. ⌜
+        (r ≡ flatOutcome (pass.repair (now (rows .entry)) state (now (list .entry)) (now (report .entry)) .left .outcome))
+        × (now (rows .exit) ≡ pass.repair (now (rows .entry)) state (now (list .entry)) (now (report .entry)) .left .rows)
+        × (now (report .exit) ≡ pass.repair (now (rows .entry)) state (now (list .entry)) (now (report .entry)) .report)
+        ⌝ }
+{
+    flat_outcome(repair(rows, state, list, report))
 }
 
 // Advances a lock.
