@@ -12,7 +12,7 @@ use Rattle.permit.specs.Permission.{mayWrite}
 use Rattle.chip.specs.Slices.{rowAt}
 use Rattle.chip.specs.Tallies.{_gains_, withGain, withGains}
 use Rattle.chip.specs.declared.state.State.{State}
-use Rattle.repair.specs.Finding.{foundIn, reportEntry, leftBy, pulsesBy}
+use Rattle.repair.specs.Finding.{foundOf, reportEntry, leftBy, pulsesBy}
 use Rattle.repair.specs.Pass.{Look, outOfOrder, lookAt, looks, mendedRows, mendingPulses, mendingGains, reportFrom}
 use Rattle.repair.specs.declared.finding.Found.{Found}
 use Rattle.repair.proofs.Rising.{rises, next-row, no-row}
@@ -41,7 +41,7 @@ module _ (rows₀ tallies₀ : List ℕ) (state : State) (list report₀ : List 
     row = getD list i 0
 
     abbrev found : Found
-    found = foundIn (mayWrite state 0 row) (rowAt rows₀ row)
+    found = foundOf (mayWrite state 0 row) (rowAt rows₀ row)
 
     one-left : left i ≡ lookAt rows₀ state row ∷ left (i + 1)
     unfolding looks
@@ -66,9 +66,9 @@ module _ (rows₀ tallies₀ : List ℕ) (state : State) (list report₀ : List 
     -- by what was learnt of the row
     pub step-ahead : (rows tallies report next counts : List ℕ) (pulses entry bits : ℕ) (may : Bool) (seen : Found)
         → Ahead rows tallies report pulses i → may ≡ mayWrite state 0 row
-        → (seen ≡ foundIn may (rowAt rows row))
-        × (next ≡ set rows row (leftBy (foundIn may (rowAt rows row)) (rowAt rows row)))
-        × (counts ≡ withGain tallies (row gains pulsesBy (foundIn may (rowAt rows row))))
+        → (seen ≡ foundOf may (rowAt rows row))
+        × (next ≡ set rows row (leftBy (foundOf may (rowAt rows row)) (rowAt rows row)))
+        × (counts ≡ withGain tallies (row gains pulsesBy (foundOf may (rowAt rows row))))
         → entry ≡ reportEntry seen → bits ≡ pulsesBy seen
         → Ahead next counts (set report i entry) (pulses + bits) (i + 1)
     step-ahead rows tallies report next counts pulses entry bits may seen a right (is, left-at, counted-at) reports takes =
@@ -83,8 +83,8 @@ module _ (rows₀ tallies₀ : List ℕ) (state : State) (list report₀ : List 
         held-still : rowAt rows row ≡ rowAt rows₀ row
         held-still = a .unmoved i (le-refl i) h
 
-        same : foundIn may (rowAt rows row) ≡ found
-        same = ap₂ foundIn right held-still
+        same : foundOf may (rowAt rows row) ≡ found
+        same = ap₂ foundOf right held-still
 
         after : List ℕ
         after = set rows row (leftBy found (rowAt rows₀ row))

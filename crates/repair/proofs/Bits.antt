@@ -14,7 +14,7 @@ use Rattle.answer.specs.declared.answers.Condition.the-variants as said
 use Rattle.answer.proofs.Choices.{both-ways}
 use Rattle.row.specs.Code.{bitAt}
 use Rattle.decode.specs.Reading.{upright, isCode, flippedAt, repairedBelow, decoded, disagree, flagWorn, saidOf, readRow, undecodable}
-use Rattle.repair.specs.Finding.{foundRead, foundIn, bitOf, pulsesBy}
+use Rattle.repair.specs.Finding.{foundRead, foundOf, bitOf, pulsesBy}
 use Rattle.repair.specs.declared.finding.Found.{Found}
 use Rattle.repair.specs.declared.finding.Found.the-variants as found
 
@@ -52,8 +52,8 @@ found-low-read held (said.Repaired bit) low = both-ways (λ (f : Found). bitOf f
 found-low-read held said.FlagWorn low = omega arith
 found-low-read held (said.FlagWornRepaired bit) low = omega arith
 
-pub found-low : (may : Bool) (held : ℕ) → bitOf (foundIn may held) < 24
-unfolding foundIn
+pub found-low : (may : Bool) (held : ℕ) → bitOf (foundOf may held) < 24
+unfolding foundOf
 found-low may held =
     both-ways (λ (f : Found). bitOf f < 24) (not may) _ _ (omega arith)
     (both-ways (λ (f : Found). bitOf f < 24) (undecodable held) _ _ (omega arith) (found-low-read held (readRow held .condition) (low-read held)))

@@ -23,8 +23,8 @@ foundRead held said.FlagWorn = Worn
 foundRead held (said.FlagWornRepaired bit) = Worn
 
 -- a row that may or may not be written: not permitted is said first; then damaged, if it does not decode
-unfoldable pub foundIn : Bool → ℕ → Found
-foundIn may held =
+unfoldable pub foundOf : Bool → ℕ → Found
+foundOf may held =
     if not may then NotPermitted
     else if undecodable held then Damaged
     else foundRead held (readRow held .condition)

@@ -11,7 +11,7 @@ use Rattle.chip.specs.Slices.{rowAt, notWhole, tooLarge}
 use Rattle.chip.specs.Tallies.{Gain, _gains_}
 use Rattle.chip.specs.declared.state.State.{State}
 use Rattle.burn.specs.Burning.{Left, burnt, kept}
-use Rattle.repair.specs.Finding.{foundIn, reportEntry, leftBy, pulsesBy}
+use Rattle.repair.specs.Finding.{foundOf, reportEntry, leftBy, pulsesBy}
 use Rattle.repair.specs.declared.finding.Found.{Found}
 
 -- a listed row from 0xf40 up, or not above the row before it; `least` is the lowest that may come next
@@ -42,7 +42,7 @@ pub record Look : Type 0 where
 
 -- each listed row is looked at by itself; the pass runs as Secure
 abbrev pub lookAt : List ℕ → State → ℕ → Look
-lookAt rows state row = record { row = row; held = rowAt rows row; found = foundIn (mayWrite state 0 row) (rowAt rows row) }
+lookAt rows state row = record { row = row; held = rowAt rows row; found = foundOf (mayWrite state 0 row) (rowAt rows row) }
 
 unfoldable pub looks : List ℕ → State → List ℕ → List Look
 looks rows state [] = []

@@ -40,8 +40,8 @@ fn found_read(held: u32, condition: Condition) -> Found
 }
 
 // What is found of a row that holds this, and that Secure may or may not write.
-pub fn found_in(may: bool, held: u32) -> Found
-    ensures { λ r. ⌜ r ≡ spec.foundIn may held ⌝ }
+pub fn found_of(may: bool, held: u32) -> Found
+    ensures { λ r. ⌜ r ≡ spec.foundOf may held ⌝ }
 {
     if !may {
         return Found::NotPermitted;

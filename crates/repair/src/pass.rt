@@ -5,10 +5,10 @@ ghost use Prim.Native.Nat.{_≤_};
 ghost use lib.ListN.{length, set};
 ghost use Rattle.chip.specs.Slices.{rowAt};
 ghost use Rattle.chip.specs.Tallies.{_gains_, withGain, withGains};
-ghost use Rattle.repair.specs.Finding.{foundIn, leftBy, pulsesBy};
+ghost use Rattle.repair.specs.Finding.{foundOf, leftBy, pulsesBy};
 ghost use Rattle.repair.specs.Pass as spec;
 use crate::finding::Found;
-use crate::finding::found_in;
+use crate::finding::found_of;
 use crate::finding::left_by;
 use crate::finding::pulses_by;
 use crate::finding::report_entry;
@@ -49,14 +49,14 @@ fn repair_number(rows: &[u32], state: State, list: &[u32], report: &[u32]) -> u3
 // Looks at a row that Secure may or may not write, burns the bit that it lost, and counts it. The page of a row that gains none is named too.
 fn repair_row(rows: &mut [u32], tallies: &mut [u16], row: u32, may: bool) -> Found
     ensures { λ r. ⌜
-        (let found = foundIn may (rowAt (now (rows .entry)) row) in
+        (let found = foundOf may (rowAt (now (rows .entry)) row) in
         (r ≡ found)
         × (now (rows .exit) ≡ set (now (rows .entry)) row (leftBy found (rowAt (now (rows .entry)) row)))
         × (now (tallies .exit) ≡ withGain (now (tallies .entry)) (row gains pulsesBy found)))
         ⌝ }
 {
     let held = row_at(rows, row);
-    let found = found_in(may, held);
+    let found = found_of(may, held);
     let left = left_by(found, held);
     burn_row(rows, tallies, row, left, pulses_by(found));
     found

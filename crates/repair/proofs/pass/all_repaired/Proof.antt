@@ -14,7 +14,7 @@ use Rattle.permit.specs.declared.permits.Permit.{Permit}
 use Rattle.permit.proofs.Sharing.{permit-right}
 use Rattle.chip.specs.Slices.{rowAt}
 use Rattle.chip.specs.Tallies.{_gains_, withGain, withGains}
-use Rattle.repair.specs.Finding.{foundIn, reportEntry, leftBy, pulsesBy}
+use Rattle.repair.specs.Finding.{foundOf, reportEntry, leftBy, pulsesBy}
 use Rattle.repair.specs.declared.finding.Found.{Found}
 use Rattle.repair.proofs.Ahead.{Ahead, none-ahead, step-ahead, all-ahead}
 use Rattle.repair.proofs.Bits.{found-low, one-pulse}

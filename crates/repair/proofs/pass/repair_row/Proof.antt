@@ -7,20 +7,20 @@ use Prim.Native.Nat.{ℕ}
 use lib.ListN.{set}
 use Rattle.chip.specs.Slices.{rowAt}
 use Rattle.chip.specs.Tallies.{_gains_, withGain}
-use Rattle.repair.specs.Finding.{foundIn, leftBy, pulsesBy}
+use Rattle.repair.specs.Finding.{foundOf, leftBy, pulsesBy}
 use Rattle.repair.specs.declared.finding.Found.{Found}
 use Rattle.repair.proofs.Bits.{found-low}
 use Rattle.repair.proofs.pass.repair_row.Statement.{statement}
 use Rattle.repair.proofs.pass.repair_row.Tie as tie
 
 left-by-requires : tie.Need-left-by-requires
-left-by-requires c κs = rw (c .found-in .ensures) (found-low _ _)
+left-by-requires c κs = rw (c .found-of .ensures) (found-low _ _)
 
 returns : tie.Need-returns
 returns c =
     let s = c .before .before .before .before .before .before .before .before .before .before .before .before .before .before .args in
     let old = c .before .before .before .before .before .before .before .before .before .before .row-at .ensures in
-    let found : c .before .before .before .before .before .before .before .before .before .found-in .result ≡ foundIn (s .may) (rowAt (now (s .rows)) (s .row)) = c .before .before .before .before .before .before .before .before .before .found-in .ensures ∙ ap (foundIn (s .may)) old in
+    let found : c .before .before .before .before .before .before .before .before .before .found-of .result ≡ foundOf (s .may) (rowAt (now (s .rows)) (s .row)) = c .before .before .before .before .before .before .before .before .before .found-of .ensures ∙ ap (foundOf (s .may)) old in
     let burnt = c .before .before .before .before .burn-row .ensures in (
       found,
       burnt .0 ∙ ap (set (now (s .rows)) (s .row)) (c .before .before .before .before .before .before .before .before .left-by .ensures ∙ ap₂ leftBy found old),
