@@ -4,11 +4,12 @@ use mathlib.Core.Bool.{Bool, true, false}
 use mathlib.Core.List.{List, [], _∷_}
 use mathlib.Core.Logic.{_⊎_, inl, inr}
 use mathlib.Core.Path.{_≡_, refl, sym, ap, _∙_, subst}
-use Prim.Native.Nat.{ℕ, zero, suc, _+_, _-_, _≤_, _<_}
+use Prim.Native.Nat.{ℕ, zero, suc, _+_, _-_, _≤_, _<_, zero-le, suc-le-suc}
+use native.Mathlib.Nat.{le-of-suc-le-suc, not-suc-le-zero}
 use native.Mathlib.Omega.{arith}
 use borrow.Author.Tests.{eq-eqb, eqb-true, eqb-false, leb-false}
 use lib.Dec.{eqb, ltb, leb}
-use lib.ListN.{length, set}
+use lib.ListN.{length, getD, set}
 use lib.Seq.{set-getD}
 use Rattle.answer.proofs.Ladders.{never-zero}
 use Rattle.row.specs.Upward.{burntUpward}
@@ -25,6 +26,9 @@ use Rattle.burn.specs.Burning.{Left, oneRow}
 use Rattle.access.specs.Judging.{raw, callRungs}
 use Rattle.burn.specs.Writes.{writeRawNumber, writeEccNumber, writeRaw, writeEcc}
 use Rattle.access.proofs.Passing.{whole, call-passed}
+use Rattle.repair.specs.Pass.{lookAt, looks, mendedRows, mendingGains, repair}
+use Rattle.repair.proofs.Passing.{let-by, pass-number, pass-done}
+use Rattle.repair.proofs.Turns.{in-turn}
 use Rattle.form.specs.Entries.{entryAt, entriesFrom, entriesOf}
 use Rattle.form.specs.Faults.{ruleOf}
 use Rattle.form.specs.declared.entries.Entry.{Entry}
@@ -43,6 +47,7 @@ use Rattle.laws.proofs.Entries.{ecc-pulses, entry-keeps, entry-pulses, burnt-ov
 use Rattle.cuts.proofs.Gains.{Gained, rowsOf, Among}
 use Rattle.cuts.proofs.RehearsalCut.{burnt-pulses}
 use Rattle.cuts.proofs.Rising.{Rising, sound-rising}
+use Rattle.laws.proofs.Mending.{left-keeps, found-pulses}
 use Rattle.laws.proofs.Writes.{inItself, keepsBits, standsAlready}
 
 -- ---- entries in order
@@ -124,6 +129,25 @@ module _ (page : ℕ) where
       let found = at-among job n (suc i) later in
       (found .0, omega (arith, found .1), found .2)
 
+-- the rows of a repair's gains are those of its list
+pub listed-rows : (rows : List ℕ) (state : State) (list : List ℕ) → rowsOf (mendingGains (looks rows state list)) ≡ list
+unfolding looks mendingGains
+listed-rows rows state [] = refl
+listed-rows rows state (row ∷ others) = ap (λ (rest : List ℕ). row ∷ rest) (listed-rows rows state others)
+
+module _ (page : ℕ) where
+  pub among-listed : (list : List ℕ) (i : ℕ) → i < length list → pageOf (getD list i 0) ≡ page → Among page list
+  among-listed [] i below at = absurd (not-suc-le-zero below)
+  among-listed (row ∷ others) zero below at = inl at
+  among-listed (row ∷ others) (suc i) below at = inr (among-listed others i (le-of-suc-le-suc below) at)
+
+  pub listed-among : (list : List ℕ) → Among page list → (i : ℕ) × (i < length list) × (pageOf (getD list i 0) ≡ page)
+  listed-among [] none = absurd none
+  listed-among (row ∷ others) (inl here) = (0, suc-le-suc zero-le, here)
+  listed-among (row ∷ others) (inr later) =
+      let found = listed-among others later in
+      (suc (found .0), suc-le-suc (found .1), found .2)
+
 -- ---- calls
 
 -- what a call that burns counts, from the rows and the state to what is left
@@ -159,6 +183,23 @@ module _ (rows : List ℕ) (state : State) where
       kept-or-run rows state area note
       (λ (l : Left). l .outcome .answer .number ≡ 0 → CountsTo rows state l (rehearsed rows 12288 (entriesOf (jobIn area note)) .gained))
       (λ n none. absurd (never-zero n none)) (job-counts (jobIn area note))
+
+  -- of a repair, each listed row in turn
+  pub repair-counts : (list report : List ℕ) → repair rows state list report .left .outcome .answer .number ≡ 0
+      → CountsTo rows state (repair rows state list report .left) (mendingGains (looks rows state list))
+  unfolding looks mendedRows mendingGains
+  repair-counts list report done =
+      let none = sym (pass-number rows state list report) ∙ done in
+      let by = let-by rows state list report none in
+      rw (pass-done rows state list report none) record {
+        long = by .0;
+        tallies = refl;
+        burnt = in-turn rows state (λ (held left : List ℕ). Gained held (mendingGains (looks rows state left)) (mendedRows held (looks rows state left)))
+            (λ held. Gained.none)
+            (λ held row others low still rest.
+            Gained.more row _ _ (omega (arith, low)) (rw still (left-keeps (lookAt rows state row .found) (rowAt rows row)))
+            (rw still (found-pulses (mayWrite state 0 row) (rowAt rows row))) rest) list (by .1);
+      }
 
   row-counts : (row number : ℕ) (written : Written) → number ≡ 0 → length rows ≡ 4096 → row < length rows → In (rowAt rows row) (written .row)
       → written .pulses ≡ pulses (rowAt rows row) (written .row)

@@ -5,17 +5,18 @@ use mathlib.Core.Logic.{_⊎_, inl, inr}
 use mathlib.Core.Path.{_≡_, refl, subst}
 use Prim.Native.Nat.{ℕ, _+_, _<_, min}
 use native.Mathlib.Omega.{arith}
-use lib.ListN.{length}
+use lib.ListN.{length, getD}
 use Rattle.chip.specs.Pages.{pageOf}
 use Rattle.chip.specs.Tallies.{tallyAt, Gain, withGains}
+use Rattle.repair.specs.Pass.{looks, mendingGains}
 use Rattle.form.specs.Entries.{countOf, entryAt, entriesOf}
 use Rattle.job.specs.Burning.{rehearsed}
 use Rattle.lead.specs.Ending.{jobIn}
 use Rattle.lead.specs.declared.notes.Note.{Note}
-use Rattle.laws.specs.Calls.{Chip, Call, aRawWrite, anEccWrite, aJob, aRehearsal, anEnd, perform}
+use Rattle.laws.specs.Calls.{Chip, Call, aRawWrite, anEccWrite, aJob, aRehearsal, anEnd, aRepair, perform}
 use Rattle.laws.specs.Promises.{Burns}
 use Rattle.cuts.specs.Tallies.{Names, newInPage, tallyBefore, TalliesExactly}
-use Rattle.cuts.proofs.Counted.{raw-counts, ecc-counts, rehearsal-counts, job-counts, end-counts, entries-rows, among-at, at-among}
+use Rattle.cuts.proofs.Counted.{raw-counts, ecc-counts, rehearsal-counts, job-counts, end-counts, repair-counts, entries-rows, among-at, at-among, listed-rows, among-listed, listed-among}
 use Rattle.cuts.proofs.Gains.{Gained, rowsOf, Among, page-left}
 
 -- what it counts, and that this is of the pages that it names
@@ -58,6 +59,9 @@ module _ (rows : List ℕ) (limit : ℕ) (job : List ℕ) (page : ℕ) where
   among-entry among =
       let found = at-among page job (countOf job) 0 (rw (entries-rows (entriesOf job) rows limit) at among) in
       (found .0, omega (arith, found .1), found .2)
+
+repaired-named : {list report : List ℕ} {page : ℕ} → Names (aRepair list report) page → (i : ℕ) × (i < length list) × (pageOf (getD list i 0) ≡ page)
+repaired-named (Names.repaired {i = i} below) = (i, below, refl)
 
 pub call-counts : (chip : Chip) (call : Call) → Burns call → perform chip call .answer .number ≡ 0 → Counts chip call
 unfolding perform
@@ -124,6 +128,20 @@ call-counts chip _ (Burns.ended {area} {note}) done =
       only = λ page among.
           let found = among-entry (chip .rows) 12288 (jobIn area note) page among in
           subst (Names (anEnd area note)) (found .2) (Names.ended (found .1));
+    }
+
+call-counts chip _ (Burns.repaired {list} {report}) done =
+    let c = repair-counts (chip .rows) (chip .state) list report done in
+    let same = listed-rows (chip .rows) (chip .state) list in
+    record {
+      gained = mendingGains (looks (chip .rows) (chip .state) list);
+      long = c .long;
+      tallies = c .tallies;
+      burnt = c .burnt;
+      named = λ page names. let at = repaired-named names in rw same (among-listed page list (at .0) (at .1) (at .2));
+      only = λ page among.
+          let found = listed-among page list (rw same at among) in
+          subst (Names (aRepair list report)) (found .2) (Names.repaired (found .1));
     }
 
 pub talliesExactly : TalliesExactly

@@ -1,11 +1,12 @@
 -- Pulses are the bits newly set, of every done call that burns.
 -- Assumes nothing.
 use mathlib.Core.List.{List}
-use mathlib.Core.Path.{_≡_, refl, sym, _∙_, subst}
-use Prim.Native.Nat.{ℕ, _<_}
+use mathlib.Core.Path.{_≡_, refl, sym, ap₂, _∙_, subst}
+use Prim.Native.Nat.{ℕ, _+_, _<_}
+use native.Mathlib.Omega.{arith}
 use borrow.Author.Tests.{eq-eqb}
 use lib.Dec.{ltb}
-use lib.ListN.{length}
+use lib.ListN.{length, length-set}
 use Rattle.answer.proofs.Ladders.{never-zero}
 use Rattle.row.specs.Writing.{pulses, eccWritten, rawWritten}
 use Rattle.row.specs.declared.writing.Written.{Written}
@@ -16,6 +17,10 @@ use Rattle.burn.specs.Burning.{Left, oneRow}
 use Rattle.access.specs.Judging.{raw}
 use Rattle.burn.specs.Writes.{writeRawNumber, writeEccNumber, writeRaw, writeEcc}
 use Rattle.access.proofs.Passing.{whole, call-passed}
+use Rattle.repair.specs.Finding.{leftBy}
+use Rattle.repair.specs.Pass.{lookAt, looks, mendedRows, mendingPulses, repair}
+use Rattle.repair.proofs.Passing.{let-by, pass-number, pass-done}
+use Rattle.repair.proofs.Turns.{in-turn}
 use Rattle.form.specs.Entries.{entriesOf}
 use Rattle.job.specs.Burning.{rehearsed}
 use Rattle.job.specs.Jobs.{runJob, rehearse}
@@ -27,13 +32,15 @@ use Rattle.lead.specs.Ending.{jobIn, endJob}
 use Rattle.lead.specs.declared.notes.Note.{Note}
 use Rattle.lead.proofs.Ends.{kept-or-run}
 use Rattle.laws.specs.Calls.{perform}
-use Rattle.laws.specs.Writes.{newlySet}
+use Rattle.laws.specs.Votes.{EachIn}
+use Rattle.laws.specs.Writes.{In, newlySet}
 use Rattle.laws.specs.Promises.{Burns}
 use Rattle.cuts.specs.Pulses.{PulsesAreNewBits}
 use Rattle.cuts.proofs.Acceptance.{carried, carried-number}
-use Rattle.laws.proofs.Between.{new-set}
+use Rattle.laws.proofs.Between.{each-self, each-through, each-over, new-none, new-set, new-through}
 use Rattle.laws.proofs.CallWrites.{allowed-by, left-rows}
 use Rattle.laws.proofs.Entries.{ecc-pulses}
+use Rattle.laws.proofs.Mending.{left-keeps, found-pulses}
 use Rattle.cuts.proofs.RehearsalCut.{rehearsed-cut}
 use Rattle.cuts.proofs.Rising.{sound-rising}
 
@@ -68,6 +75,28 @@ module _ (rows : List ℕ) (state : State) where
       kept-or-run rows state area note (λ (l : Left). l .outcome .answer .number ≡ 0 → Counted rows l) (λ n none. absurd (never-zero n none))
       (job-counted (jobIn area note))
 
+  -- of a repair, each listed row in turn
+  repair-counted : (list report : List ℕ) → repair rows state list report .left .outcome .answer .number ≡ 0
+      → Counted rows (repair rows state list report .left)
+  unfolding looks mendedRows mendingPulses
+  repair-counted list report done =
+      let none = sym (pass-number rows state list report) ∙ done in
+      let by = let-by rows state list report none in
+      rw (pass-done rows state list report none)
+      (in-turn rows state Summed (λ held long. (each-self held, sym (new-none held)))
+      (λ held row others low still rest long.
+      let one : In (rowAt held row) (leftBy (lookAt rows state row .found) (rowAt rows row)) = rw still (left-keeps (lookAt rows state row .found) (rowAt rows row)) in
+      let over = each-over held row _ one in
+      let later = rest (length-set held row _ ∙ long) in
+      (each-through over (later .0),
+      ap₂ _+_ (found-pulses (mayWrite state 0 row) (rowAt rows row) ∙ rw still refl ∙ sym (new-set held row _ (omega (arith, low, long)))) (later .1) ∙ new-through over (later .0)))
+      list (by .1) (by .0) .1)
+    where
+      Summed : List ℕ → List ℕ → Type 0
+      Summed held left =
+          length held ≡ 4096
+          → EachIn held (mendedRows held (looks rows state left)) × (mendingPulses (looks rows state left) ≡ newlySet held (mendedRows held (looks rows state left)))
+
   raw-counted : (caller row value : ℕ) → writeRaw rows state caller row value .outcome .answer .number ≡ 0
       → Counted rows (writeRaw rows state caller row value)
   unfolding writeRaw
@@ -90,3 +119,4 @@ pulsesAreNewBits chip _ (Burns.eccWrite {caller} {row} {value}) done = ecc-count
 pulsesAreNewBits chip _ (Burns.job {bytes}) done = job-counted (chip .rows) (chip .state) bytes done
 pulsesAreNewBits chip _ (Burns.rehearsal {bytes} {limit}) done = rehearsal-counted (chip .rows) (chip .state) bytes limit done
 pulsesAreNewBits chip _ (Burns.ended {area} {note}) done = end-counted (chip .rows) (chip .state) area note done
+pulsesAreNewBits chip _ (Burns.repaired {list} {report}) done = repair-counted (chip .rows) (chip .state) list report done

@@ -15,7 +15,7 @@ use Rattle.chip.specs.declared.state.Outcome.{Outcome}
 use Rattle.lock.specs.Calls.{advanceNumber, advance, enterNumber, enterKey}
 use Rattle.latch.specs.Resetting.{latched, resetNumber, reset}
 use Rattle.form.specs.Entries.{versionOf}
-use Rattle.laws.specs.Calls.{Chip, Call, aReset, aRawRead, anEccRead, aVote, aRawWrite, anEccWrite, anAdvance, aShow, aKey, aJob, aRehearsal, anEnd, perform, performAll}
+use Rattle.laws.specs.Calls.{Chip, Call, aReset, aRawRead, anEccRead, aVote, aRawWrite, anEccWrite, anAdvance, aShow, aKey, aJob, aRehearsal, anEnd, aRepair, perform, performAll}
 use Rattle.cuts.specs.Cuts.{Keyed, noKeyEntered, keyEntered, ready, Completes}
 use Rattle.laws.specs.Promises.{Burns}
 use Rattle.cuts.specs.Tallies.{Tallied, TalliesStayRight, CutTallied, CutsLeaveTallies, OthersKeepTallies}
@@ -56,6 +56,7 @@ sort-of chip (aKey caller key) =
 sort-of chip (aJob job) = burning Burns.job
 sort-of chip (aRehearsal job limit) = burning Burns.rehearsal
 sort-of chip (anEnd area note) = burning Burns.ended
+sort-of chip (aRepair list report) = burning Burns.repaired
 
 -- a call is refused, and leaves the chip, or done
 refused-or-done : (chip : Chip) (call : Call) → (perform chip call .chip ≡ chip) ⊎ (perform chip call .answer .number ≡ 0)

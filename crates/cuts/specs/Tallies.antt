@@ -2,7 +2,7 @@
 use Prim.Native.Nat.{ℕ, _+_, _<_, min}
 use mathlib.Core.List.{List, _∷_}
 use mathlib.Core.Path.{_≡_}
-use lib.ListN.{length}
+use lib.ListN.{length, getD}
 use Rattle.chip.specs.Pages.{pageOf}
 use Rattle.chip.specs.Tallies.{pageRows, talliesOf, tallyAt}
 use Rattle.chip.specs.declared.state.State.{State}
@@ -11,7 +11,7 @@ use Rattle.form.specs.Entries.{versionOf, countOf, entryAt, entriesOf}
 use Rattle.job.specs.Jobs.{runJob, rehearse}
 use Rattle.lead.specs.Ending.{jobIn}
 use Rattle.lead.specs.declared.notes.Note.{Note}
-use Rattle.laws.specs.Calls.{Chip, Call, aReset, aRawWrite, anEccWrite, aJob, aRehearsal, anEnd, perform, performAll}
+use Rattle.laws.specs.Calls.{Chip, Call, aReset, aRawWrite, anEccWrite, aJob, aRehearsal, anEnd, aRepair, perform, performAll}
 use Rattle.cuts.specs.Cuts.{Keyed, ready, Bytes, acceptedOn, Cuts}
 use Rattle.laws.specs.Writes.{newlySet}
 use Rattle.laws.specs.Promises.{Burns}
@@ -38,13 +38,14 @@ CutsLeaveTallies =
     → Bytes job → acceptedOn rows before key job → Cuts (entriesOf job) rows left spent → (versionOf job ≡ 2 → acceptedOn left later key job)
     → runJob left (ready left later key) job .outcome .state .tallies ≡ runJob rows (ready rows before key) job .outcome .state .tallies
 
--- the pages that a call names: a row of it is written, or stands in the job, whether or not a rehearsal's limit gets so far
+-- the pages that a call names: a row of it is written, or stands in the job or the list, whether or not a rehearsal's limit gets so far
 pub data Names : Call → ℕ → Type 0 where
   rawWrite : {caller row value : ℕ} → Names (aRawWrite caller row value) (pageOf row)
   eccWrite : {caller row value : ℕ} → Names (anEccWrite caller row value) (pageOf row)
   job : {bytes : List ℕ} {i : ℕ} → i < countOf bytes → Names (aJob bytes) (pageOf (entryAt bytes i .row))
   rehearsal : {bytes : List ℕ} {limit i : ℕ} → i < countOf bytes → Names (aRehearsal bytes limit) (pageOf (entryAt bytes i .row))
   ended : {area : List ℕ} {note : Note} {i : ℕ} → i < countOf (jobIn area note) → Names (anEnd area note) (pageOf (entryAt (jobIn area note) i .row))
+  repaired : {list report : List ℕ} {i : ℕ} → i < length list → Names (aRepair list report) (pageOf (getD list i 0))
 
 -- the bits newly set in a page's rows
 abbrev pub newInPage : List ℕ → List ℕ → ℕ → ℕ

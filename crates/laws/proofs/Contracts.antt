@@ -5,7 +5,7 @@ use mathlib.Core.Path.{_≡_, refl, sym, ap₂, _∙_}
 use Prim.Native.Nat.{ℕ}
 use Rattle.answer.specs.declared.answers.Answer.{Answer}
 use Rattle.chip.specs.declared.state.Outcome.{Outcome}
-use Rattle.laws.specs.Calls.{Chip, Result, aReset, aRawRead, anEccRead, aVote, aRawWrite, anEccWrite, anAdvance, aShow, aKey, aJob, aRehearsal, anEnd, perform}
+use Rattle.laws.specs.Calls.{Chip, Result, aReset, aRawRead, anEccRead, aVote, aRawWrite, anEccWrite, anAdvance, aShow, aKey, aJob, aRehearsal, anEnd, aRepair, perform}
 use Rattle.laws.specs.Contracts.{outcomeOf, Allows, NoRoom, PromisedIsAllowed}
 
 module _ (a b : Result) where
@@ -40,6 +40,7 @@ noRoom chip (aKey caller key) a b = by-outcome a b _ _
 noRoom chip (aJob job) a b = by-outcome a b _ _
 noRoom chip (aRehearsal job limit) a b = by-outcome a b _ _
 noRoom chip (anEnd area note) a b = by-outcome a b _ _
+noRoom chip (aRepair list report) a b = by-outcome a b _ _
 
 pub promisedIsAllowed : PromisedIsAllowed
 unfolding Allows perform
@@ -55,3 +56,4 @@ promisedIsAllowed chip (aKey caller key) = (refl, refl)
 promisedIsAllowed chip (aJob job) = (refl, refl)
 promisedIsAllowed chip (aRehearsal job limit) = (refl, refl)
 promisedIsAllowed chip (anEnd area note) = (refl, refl)
+promisedIsAllowed chip (aRepair list report) = (refl, refl)

@@ -21,3 +21,4 @@ pub mod Between
 pub mod Entries
 pub mod Latches
 pub mod KeyWear
+pub mod Mending

@@ -23,9 +23,10 @@ use Rattle.access.specs.Reads.{readEccNumber, readRaw, readEcc}
 use Rattle.access.specs.Votes.{readVote}
 use Rattle.burn.specs.Writes.{writeRaw, writeEcc}
 use Rattle.access.proofs.Answering.{read-done}
+use Rattle.repair.specs.Pass.{Passed, repair}
 use Rattle.job.specs.Jobs.{runJob, rehearse}
 use Rattle.lead.specs.Ending.{endJob}
-use Rattle.laws.specs.Calls.{aReset, aRawRead, anEccRead, aVote, aRawWrite, anEccWrite, anAdvance, aShow, aKey, aJob, aRehearsal, anEnd, perform}
+use Rattle.laws.specs.Calls.{aReset, aRawRead, anEccRead, aVote, aRawWrite, anEccWrite, anAdvance, aShow, aKey, aJob, aRehearsal, anEnd, aRepair, perform}
 use Rattle.laws.specs.Numbers.{numberOf, GivenExactly}
 
 abbrev ofAnswer : Answer → ℕ
@@ -36,6 +37,9 @@ ofOutcome o = o .answer .number
 
 abbrev ofLeft : Left → ℕ
 ofLeft left = left .outcome .answer .number
+
+abbrev ofPassed : Passed → ℕ
+ofPassed passed = ofLeft (passed .left)
 
 -- a row that is read by ECC answers for itself only where the last rung has let it by
 ecc-number : (rows : List ℕ) (state : State) (caller row : ℕ)
@@ -51,7 +55,7 @@ ecc-number rows state caller row = go (eqb (readEccNumber rows state caller row)
     go false e = rw e
 
 pub givenExactly : GivenExactly
-unfolding perform numberOf reset readRaw readEcc readVote writeRaw writeEcc advance showLock enterKey runJob rehearse endJob
+unfolding perform numberOf reset readRaw readEcc readVote writeRaw writeEcc advance showLock enterKey runJob rehearse endJob repair
 givenExactly chip aReset = own-number ofOutcome _ _ _ refl refl
 givenExactly chip (aRawRead caller row) = own-number ofAnswer _ _ _ refl refl
 givenExactly chip (anEccRead caller row) = ecc-number (chip .rows) (chip .state) caller row
@@ -64,3 +68,4 @@ givenExactly chip (aKey caller key) = own-number ofOutcome _ _ _ refl refl
 givenExactly chip (aJob job) = own-number ofLeft _ _ _ refl refl
 givenExactly chip (aRehearsal job limit) = own-number ofLeft _ _ _ refl refl
 givenExactly chip (anEnd area note) = own-number ofLeft _ _ _ refl refl
+givenExactly chip (aRepair list report) = own-number ofPassed _ _ _ refl refl

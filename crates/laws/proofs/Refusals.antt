@@ -17,10 +17,11 @@ use Rattle.latch.specs.Resetting.{resetNumber, reset}
 use Rattle.access.specs.Reads.{readRawNumber, readEccNumber, readRaw, readEcc}
 use Rattle.access.specs.Votes.{readVoteNumber, readVote}
 use Rattle.burn.specs.Writes.{writeRawNumber, writeEccNumber, writeRaw, writeEcc}
+use Rattle.repair.specs.Pass.{Passed, repairNumber, repair}
 use Rattle.job.specs.Jobs.{runJob, rehearse}
 use Rattle.judge.specs.Verdicts.{verdictOf}
 use Rattle.lead.specs.Ending.{endVerdict, endJob}
-use Rattle.laws.specs.Calls.{Chip, Call, Result, only, stated, leaving, aReset, aRawRead, anEccRead, aVote, aRawWrite, anEccWrite, anAdvance, aShow, aKey, aJob, aRehearsal, anEnd, perform}
+use Rattle.laws.specs.Calls.{Chip, Call, Result, only, stated, leaving, aReset, aRawRead, anEccRead, aVote, aRawWrite, anEccWrite, anAdvance, aShow, aKey, aJob, aRehearsal, anEnd, aRepair, perform}
 use Rattle.laws.specs.Promises.{RefusalKeeps}
 use Rattle.answer.proofs.Choices.{both-ways}
 use Rattle.decode.proofs.Undecoded.{read-or-8}
@@ -50,7 +51,7 @@ module _ (rows : List ℕ) (state : State) where
       go (inr eight) = rw eight (refusal refl refl refl refl refl)
 
   pub each-call : (call : Call) → Kept chip call (perform chip call)
-  unfolding perform reset readRaw readEcc readVote writeRaw writeEcc advance showLock enterKey runJob rehearse endJob
+  unfolding perform reset readRaw readEcc readVote writeRaw writeEcc advance showLock enterKey runJob rehearse endJob repair
   each-call aReset =
       refused-or-done (stated chip) (resetNumber rows) _ _ (finished refl refl refl) (refusal refl refl refl refl refl)
   each-call (aRawRead caller row) =
@@ -75,6 +76,8 @@ module _ (rows : List ℕ) (state : State) where
       refused-or-done leaving (verdictOf rows state job .number) _ _ (finished refl refl refl) (refusal refl refl refl refl refl)
   each-call (anEnd area note) =
       refused-or-done leaving (endVerdict rows state area note .number) _ _ (finished refl refl refl) (refusal refl refl refl refl refl)
+  each-call (aRepair list report) =
+      refused-or-done (λ (p : Passed). leaving (p .left)) (repairNumber rows state list report) _ _ (finished refl refl refl) (refusal refl refl refl refl refl)
 
 pub refusalKeeps : RefusalKeeps
 refusalKeeps chip call = go (each-call (chip .rows) (chip .state) call)

@@ -10,7 +10,7 @@ use Rattle.chip.specs.States.{withEntered, withTallies}
 use Rattle.chip.specs.declared.state.State.{State}
 use Rattle.chip.specs.declared.state.Outcome.{Outcome}
 use Rattle.lock.specs.Calls.{advance, enterNumber, enterKey}
-use Rattle.laws.specs.Calls.{Chip, Call, aReset, aRawRead, anEccRead, aVote, aRawWrite, anEccWrite, anAdvance, aShow, aKey, aJob, aRehearsal, anEnd, perform, performAll}
+use Rattle.laws.specs.Calls.{Chip, Call, aReset, aRawRead, anEccRead, aVote, aRawWrite, anEccWrite, anAdvance, aShow, aKey, aJob, aRehearsal, anEnd, aRepair, perform, performAll}
 use Rattle.laws.specs.Promises.{NoReset, Burns}
 use Rattle.laws.proofs.Refusals.{refusalKeeps}
 use Rattle.laws.proofs.Burning.{burningLatchesNothing}
@@ -50,6 +50,7 @@ module _ (Kept : State → State → Type 0) (itself : (state : State) → Kept 
   by-call chip (aJob job) not-reset = by-burning chip Burns.job
   by-call chip (aRehearsal job limit) not-reset = by-burning chip Burns.rehearsal
   by-call chip (anEnd area note) not-reset = by-burning chip Burns.ended
+  by-call chip (aRepair list report) not-reset = by-burning chip Burns.repaired
 
   pub by-calls : (chip : Chip) (calls : List Call) → NoReset calls → Kept (chip .state) (performAll chip calls .state)
   unfolding performAll

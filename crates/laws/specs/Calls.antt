@@ -11,6 +11,7 @@ use Rattle.access.specs.Reads.{readRaw, readEcc}
 use Rattle.access.specs.Votes.{readVote}
 use Rattle.burn.specs.Burning.{Left}
 use Rattle.burn.specs.Writes.{writeRaw, writeEcc}
+use Rattle.repair.specs.Pass.{repair}
 use Rattle.job.specs.Jobs.{runJob, rehearse}
 use Rattle.lead.specs.Ending.{endJob}
 use Rattle.lead.specs.declared.notes.Note.{Note}
@@ -32,6 +33,7 @@ pub data Call : Type 0 where
   aJob : (job : List ℕ) → Call
   aRehearsal : (job : List ℕ) (limit : ℕ) → Call
   anEnd : (area : List ℕ) (note : Note) → Call
+  aRepair : (list report : List ℕ) → Call
 
 -- what a call answers, and the chip that it leaves
 pub record Result : Type 0 where
@@ -64,6 +66,7 @@ perform chip (aKey caller key) = stated chip (enterKey (chip .state) caller key)
 perform chip (aJob job) = leaving (runJob (chip .rows) (chip .state) job)
 perform chip (aRehearsal job limit) = leaving (rehearse (chip .rows) (chip .state) job limit)
 perform chip (anEnd area note) = leaving (endJob (chip .rows) (chip .state) area note)
+perform chip (aRepair list report) = leaving (repair (chip .rows) (chip .state) list report .left)
 
 -- calls performed one after the other
 unfoldable pub performAll : Chip → List Call → Chip

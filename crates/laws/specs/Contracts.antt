@@ -6,9 +6,10 @@ use Rattle.latch.specs.Resetting.{reset}
 use Rattle.access.specs.Reads.{readRaw, readEcc}
 use Rattle.access.specs.Votes.{readVote}
 use Rattle.burn.specs.Writes.{writeRaw, writeEcc}
+use Rattle.repair.specs.Pass.{repair}
 use Rattle.job.specs.Jobs.{runJob, rehearse}
 use Rattle.lead.specs.Ending.{endJob}
-use Rattle.laws.specs.Calls.{Chip, Call, Result, aReset, aRawRead, anEccRead, aVote, aRawWrite, anEccWrite, anAdvance, aShow, aKey, aJob, aRehearsal, anEnd, perform}
+use Rattle.laws.specs.Calls.{Chip, Call, Result, aReset, aRawRead, anEccRead, aVote, aRawWrite, anEccWrite, anAdvance, aShow, aKey, aJob, aRehearsal, anEnd, aRepair, perform}
 
 -- the outcome that a call hands back: its answer, and the state
 abbrev pub outcomeOf : Result → Outcome
@@ -37,6 +38,9 @@ Allows chip (aRehearsal job limit) r =
     × (r .chip .rows ≡ rehearse (chip .rows) (chip .state) job limit .rows)
 Allows chip (anEnd area note) r =
     (outcomeOf r ≡ endJob (chip .rows) (chip .state) area note .outcome) × (r .chip .rows ≡ endJob (chip .rows) (chip .state) area note .rows)
+Allows chip (aRepair list report) r =
+    (outcomeOf r ≡ repair (chip .rows) (chip .state) list report .left .outcome)
+    × (r .chip .rows ≡ repair (chip .rows) (chip .state) list report .left .rows)
 
 -- any two results that the contract of a call allows are equal
 abbrev pub NoRoom : Type 0

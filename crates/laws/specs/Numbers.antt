@@ -6,9 +6,10 @@ use Rattle.latch.specs.Resetting.{resetNumber}
 use Rattle.access.specs.Reads.{readRawNumber, readEccNumber}
 use Rattle.access.specs.Votes.{readVoteNumber}
 use Rattle.burn.specs.Writes.{writeRawNumber, writeEccNumber}
+use Rattle.repair.specs.Pass.{repairNumber}
 use Rattle.judge.specs.Verdicts.{verdictOf}
 use Rattle.lead.specs.Ending.{endVerdict}
-use Rattle.laws.specs.Calls.{Chip, Call, aReset, aRawRead, anEccRead, aVote, aRawWrite, anEccWrite, anAdvance, aShow, aKey, aJob, aRehearsal, anEnd, perform}
+use Rattle.laws.specs.Calls.{Chip, Call, aReset, aRawRead, anEccRead, aVote, aRawWrite, anEccWrite, anAdvance, aShow, aKey, aJob, aRehearsal, anEnd, aRepair, perform}
 
 -- the number of the first of a call's tests that holds, and 0 where none does
 unfoldable pub numberOf : Chip → Call → ℕ
@@ -24,6 +25,7 @@ numberOf chip (aKey caller key) = enterNumber caller key
 numberOf chip (aJob job) = verdictOf (chip .rows) (chip .state) job .number
 numberOf chip (aRehearsal job limit) = verdictOf (chip .rows) (chip .state) job .number
 numberOf chip (anEnd area note) = endVerdict (chip .rows) (chip .state) area note .number
+numberOf chip (aRepair list report) = repairNumber (chip .rows) (chip .state) list report
 
 -- every call answers it
 abbrev pub GivenExactly : Type 0

@@ -25,7 +25,7 @@ use Rattle.access.specs.Reads.{readEccNumber, readEcc}
 use Rattle.access.specs.Judging.{ecc, callRungs}
 use Rattle.burn.specs.Writes.{writeRaw, writeEcc}
 use Rattle.lead.specs.declared.notes.Note.{Note}
-use Rattle.laws.specs.Calls.{Chip, Call, aReset, aRawWrite, anEccWrite, aJob, aRehearsal, anEnd, perform, performAll}
+use Rattle.laws.specs.Calls.{Chip, Call, aReset, aRawWrite, anEccWrite, aJob, aRehearsal, anEnd, aRepair, perform, performAll}
 use Rattle.laws.specs.Writes.{In, burntIn}
 
 -- every refusal returns value 0, condition clean, plain, and 0 pulses, and leaves each row and the state unchanged
@@ -120,13 +120,14 @@ AdvanceLeavesOthers =
     → (otherDomain otherPage : ℕ) → (otherDomain ≡ domain → otherPage ≡ page → ⊥)
     → shownLevel (advance state caller domain page level .state) otherDomain otherPage ≡ shownLevel state otherDomain otherPage
 
--- writes, jobs, rehearsals and the end of a job that came in chunks
+-- writes, jobs, rehearsals, the end of a job that came in chunks, and repairs
 pub data Burns : Call → Type 0 where
   rawWrite : {caller row value : ℕ} → Burns (aRawWrite caller row value)
   eccWrite : {caller row value : ℕ} → Burns (anEccWrite caller row value)
   job : {bytes : List ℕ} → Burns (aJob bytes)
   rehearsal : {bytes : List ℕ} {limit : ℕ} → Burns (aRehearsal bytes limit)
   ended : {area : List ℕ} {note : Note} → Burns (anEnd area note)
+  repaired : {list report : List ℕ} → Burns (aRepair list report)
 
 -- burning a lock or key row, or any other, changes nothing latched: nothing of the state but the tallies
 abbrev pub BurningLatchesNothing : Type 0

@@ -3,3 +3,4 @@ pub mod Decoding
 pub mod Rising
 pub mod Ahead
 pub mod Passing
+pub mod Turns

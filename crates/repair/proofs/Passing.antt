@@ -7,6 +7,7 @@ use mathlib.Core.Path.{_≡_, refl, sym, ap, _∙_}
 use borrow.Author.Tests.{eq-eqb, ne-eqb, eqb-true, not-false, ltb-false}
 use lib.Dec.{eqb, ltb}
 use lib.ListN.{length}
+use Rattle.answer.proofs.Choices.{own-number}
 use Rattle.answer.proofs.Ladders.{passed}
 use Rattle.chip.specs.Slices.{notWhole}
 use Rattle.chip.specs.declared.state.State.{State}
@@ -23,6 +24,11 @@ module _ (rows : List ℕ) (state : State) (list report : List ℕ) where
       let twelve = passed (ltb (length report) (length list)) 11 _ (eleven .1) in
       let three = passed (someTooLarge rows state list) 2 _ (twelve .1) in
       (eqb-true (length rows) 4096 (not-false (eqb (length rows) 4096) (one .0)), eleven .0, ltb-false (length report) (length list) (twelve .0), three .0)
+
+  -- it answers its number
+  pub pass-number : repair rows state list report .left .outcome .answer .number ≡ repairNumber rows state list report
+  unfolding repair
+  pass-number = own-number (λ (p : Passed). p .left .outcome .answer .number) (repairNumber rows state list report) _ _ refl refl
 
   -- any number but 0 leaves all as it was
   pub pass-refused : (number : ℕ) → number ≡ repairNumber rows state list report → (number ≡ 0 → ⊥)
