@@ -129,7 +129,6 @@ call-counts chip _ (Burns.ended {area} {note}) done =
           let found = among-entry (chip .rows) 12288 (jobIn area note) page among in
           subst (Names (anEnd area note)) (found .2) (Names.ended (found .1));
     }
-
 call-counts chip _ (Burns.repaired {list} {report}) done =
     let c = repair-counts (chip .rows) (chip .state) list report done in
     let same = listed-rows (chip .rows) (chip .state) list in

@@ -87,9 +87,10 @@ module _ (rows : List ℕ) (state : State) where
       (λ held row others low still rest long.
       let one : In (rowAt held row) (leftBy (lookAt rows state row .found) (rowAt rows row)) = rw still (left-keeps (lookAt rows state row .found) (rowAt rows row)) in
       let over = each-over held row _ one in
-      let later = rest (length-set held row _ ∙ long) in
-      (each-through over (later .0),
-      ap₂ _+_ (found-pulses (mayWrite state 0 row) (rowAt rows row) ∙ rw still refl ∙ sym (new-set held row _ (omega (arith, low, long)))) (later .1) ∙ new-through over (later .0)))
+      let later = rest (length-set held row _ ∙ long) in (
+        each-through over (later .0),
+        ap₂ _+_ (found-pulses (mayWrite state 0 row) (rowAt rows row) ∙ rw still refl ∙ sym (new-set held row _ (omega (arith, low, long)))) (later .1) ∙ new-through over (later .0),
+      ))
       list (by .1) (by .0) .1)
     where
       Summed : List ℕ → List ℕ → Type 0

@@ -18,7 +18,7 @@ use Rattle.laws.proofs.Between.{in-le}
 use Rattle.laws.proofs.Entries.{entry-small}
 use Rattle.cuts.proofs.Rewriting.{Admitted, judged-done, admitted-next}
 
-range-set : (rows : List ℕ) (k new : ℕ) → allInRange rows ≡ true → new ≤ 16777215 → allInRange (set rows k new) ≡ true
+pub range-set : (rows : List ℕ) (k new : ℕ) → allInRange rows ≡ true → new ≤ 16777215 → allInRange (set rows k new) ≡ true
 unfolding allInRange
 range-set [] k new small low = refl
 range-set (row ∷ rows) zero new small low = rw (le-leb new 16777215 low) (and-eq-true-iff (leb row 16777215) (allInRange rows) .0 small .1)

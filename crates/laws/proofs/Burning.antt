@@ -45,7 +45,7 @@ rehearsed-in (e ∷ others) rows limit =
     (each-over rows (e .row) _ (burnt-over limit old (writtenOver rows e .row)))
 
 -- the listed rows in turn
-mended-in : (rows : List ℕ) (state : State) (list : List ℕ) → outOfOrder 0 list ≡ false → EachIn rows (mendedRows rows (looks rows state list))
+pub mended-in : (rows : List ℕ) (state : State) (list : List ℕ) → outOfOrder 0 list ≡ false → EachIn rows (mendedRows rows (looks rows state list))
 unfolding looks mendedRows
 mended-in rows state =
     in-turn rows state (λ (held list : List ℕ). EachIn held (mendedRows held (looks rows state list))) each-self

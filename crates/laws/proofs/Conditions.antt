@@ -32,10 +32,10 @@ use Rattle.laws.proofs.Refusals.{Kept, each-call}
 
 -- ---- bits 23 and 22, and a flipped bit
 
-agree : (row : ℕ) → disagree row ≡ false → Agree row
+pub agree : (row : ℕ) → disagree row ≡ false → Agree row
 agree row e = eqb-true (bitAt 23 row) (bitAt 22 row) (not-false _ e)
 
-apart : (row : ℕ) → disagree row ≡ true → Agree row → ⊥
+pub apart : (row : ℕ) → disagree row ≡ true → Agree row → ⊥
 apart row e = eqb-false (bitAt 23 row) (bitAt 22 row) (not-true _ e)
 
 -- a flipped bit is seen

@@ -1,26 +1,24 @@
 -- What is found of a row that is to be repaired, by what its bits are; and the row that is left.
 -- Assumes nothing.
-use mathlib.Core.Bool.{Bool, true, false, not}
-use mathlib.Core.Path.{_≡_, refl, sym, ap, ap₂, _∙_, subst}
-use Prim.Native.Nat.{ℕ, _+_, _*_, _%_, _^_, _≤_, _<_, min, max}
+use mathlib.Core.Bool.{Bool, true, false}
+use mathlib.Core.Path.{_≡_, refl, sym, ap, _∙_}
+use Prim.Native.Nat.{ℕ, _+_, _^_, _<_, min, max}
 use native.Mathlib.Nat.{add-zero, zero-mul}
 use native.Mathlib.Omega.{arith}
-use borrow.Author.Tests.{eqb-true, eqb-false, eq-eqb, ne-eqb, not-true, not-false}
+use borrow.Author.Tests.{eqb-true, eqb-false}
 use lib.Bits.{bitAnd, bitOr, bitXor, differ, and-comm, or-disjoint, xor-disjoint}
 use lib.Count.{onesIn}
-use lib.Dec.{T, eqb, eqb→eq}
-use Rattle.answer.specs.Answers.{refused, found}
+use lib.Dec.{eqb, eqb→eq}
+use Rattle.answer.specs.Answers.{found}
 use Rattle.answer.specs.Choice.{if_then_else_}
 use Rattle.answer.specs.declared.answers.Answer.{Answer}
-use Rattle.answer.specs.declared.answers.Condition.{Condition}
-use Rattle.answer.specs.declared.answers.Condition.the-variants as said
 use Rattle.row.specs.Code.{bitAt, setBits, code}
 use Rattle.row.specs.Writing.{pulses}
 use Rattle.row.proofs.Counts.{ones-sum, ones-none}
 use Rattle.row.proofs.Digits.{equal2, at-below}
 use Rattle.row.proofs.Places.{bit-lt, bit-and, bit-or, bit-xor, and-power}
 use Rattle.decode.specs.Reading.{flippedAt, disagree, saidOf, readRow, undecodable}
-use Rattle.repair.specs.Finding.{foundRepaired, foundRead, foundOf, leftBy, pulsesBy}
+use Rattle.repair.specs.Finding.{foundRead, foundOf, leftBy, pulsesBy}
 use Rattle.repair.specs.declared.finding.Found.{Found}
 use Rattle.repair.specs.declared.finding.Found.the-variants.{Clean, Mended, Worn, Damaged, NotPermitted}
 use Rattle.laws.specs.Reads.{Value, looked}

@@ -28,7 +28,7 @@ use Rattle.laws.proofs.Flags.{both-set, looked-flag, said-plain, said-i
 
 -- ---- what some bits are read as
 
-decoded-code : (value : ℕ) → Value value → decoded (code value) ≡ found value Clean
+pub decoded-code : (value : ℕ) → Value value → decoded (code value) ≡ found value Clean
 unfolding decoded
 decoded-code value h = rw (code-data value h, eq-eqb (code value) (code value) refl)
 
@@ -47,7 +47,7 @@ syndrome-of-damage value damage h =
     syndrome-linear (code value) damage
     ∙ ap (λ (s : ℕ). bitXor s (syndrome damage)) (code-syndrome (code value) (ap code (sym (code-data value h))))
 
-decoded-flipped : (value place : ℕ) → Value value → place < 22 → decoded (flippedAt place (code value)) ≡ found value (Repaired place)
+pub decoded-flipped : (value place : ℕ) → Value value → place < 22 → decoded (flippedAt place (code value)) ≡ found value (Repaired place)
 unfolding columns placeBelow
 decoded-flipped value place h l =
     let damaged : syndrome (2 ^ place) ≡ 0 → ⊥ = λ none. omega (arith, sym (place-named place l) ∙ ap (placeBelow 22) none) in
@@ -105,7 +105,7 @@ zeroOrEight row = go (read-or-8 row)
     go (inr eight) = inr (ap (λ (a : Answer). a .number) eight)
 
 -- some bits and the same with one of them flipped
-one-away : (place bits : ℕ) → place < 22 → distance bits (flippedAt place bits) ≤ 1
+pub one-away : (place bits : ℕ) → place < 22 → distance bits (flippedAt place bits) ≤ 1
 unfolding setBits onesIn
 one-away place bits l =
     rw (xor-cancel-left bits (2 ^ place)) (leb→le _ _ (at-below 22 (λ k. leb (setBits (2 ^ k)) 1) tt place l))

@@ -1,7 +1,7 @@
 -- A pass as it is judged: what it was let by for, and what it leaves.
 -- Assumes nothing.
 use Prim.Native.Nat.{ℕ, _≤_}
-use mathlib.Core.Bool.{Bool, true, false, not}
+use mathlib.Core.Bool.{false}
 use mathlib.Core.List.{List}
 use mathlib.Core.Path.{_≡_, refl, sym, ap, _∙_}
 use borrow.Author.Tests.{eq-eqb, ne-eqb, eqb-true, not-false, ltb-false}
@@ -12,7 +12,7 @@ use Rattle.answer.proofs.Ladders.{passed}
 use Rattle.chip.specs.Slices.{notWhole}
 use Rattle.chip.specs.declared.state.State.{State}
 use Rattle.burn.specs.Burning.{burnt, kept}
-use Rattle.repair.specs.Pass.{Look, Passed, outOfOrder, someTooLarge, repairNumber, looks, mendedRows, mendingPulses, mendingGains, reportFrom, repair}
+use Rattle.repair.specs.Pass.{Passed, outOfOrder, someTooLarge, repairNumber, looks, mendedRows, mendingPulses, mendingGains, reportFrom, repair}
 
 module _ (rows : List ℕ) (state : State) (list report : List ℕ) where
   -- none of the four tests holds

@@ -1,8 +1,7 @@
 -- `repair::list::too_large` meets its contract: where it may not, its entry is not looked at.
 -- Assumes nothing.
 use borrow.Author.Needs.{needs}
-use mathlib.Core.Path.{ap, _∙_}
-use Prim.Native.Nat.{ℕ}
+use mathlib.Core.Path.{ap}
 use borrow.Author.Tests.{not-true, not-false}
 use lib.Dec.{ltb}
 use Rattle.repair.proofs.list.too_large.Statement.{statement}

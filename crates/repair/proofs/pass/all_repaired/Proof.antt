@@ -3,19 +3,13 @@
 -- Assumes nothing.
 use borrow.Author.Needs.{needs}
 use denote.Ref.{now}
-use mathlib.Core.Bool.{Bool}
-use mathlib.Core.List.{List}
-use mathlib.Core.Path.{_≡_, refl, sym, ap, ap₂, _∙_, subst}
-use Prim.Native.Nat.{ℕ, _+_, _-_, _≤_, _<_}
+use mathlib.Core.Path.{_≡_, refl, sym, ap, _∙_}
+use Prim.Native.Nat.{ℕ, _-_, _≤_}
 use native.Mathlib.Omega.{arith}
-use lib.ListN.{length, getD, set, length-set}
+use lib.ListN.{length, getD, length-set}
 use Rattle.permit.specs.Permission.{mayWrite}
 use Rattle.permit.specs.declared.permits.Permit.{Permit}
 use Rattle.permit.proofs.Sharing.{permit-right}
-use Rattle.chip.specs.Slices.{rowAt}
-use Rattle.chip.specs.Tallies.{_gains_, withGain, withGains}
-use Rattle.repair.specs.Finding.{foundOf, reportEntry, leftBy, pulsesBy}
-use Rattle.repair.specs.declared.finding.Found.{Found}
 use Rattle.repair.proofs.Ahead.{Ahead, none-ahead, step-ahead, all-ahead}
 use Rattle.repair.proofs.Bits.{found-low, one-pulse}
 use Rattle.repair.proofs.Rising.{each-row}

@@ -2,13 +2,12 @@
 -- Assumes nothing.
 use borrow.Author.Needs.{needs}
 use denote.Ref.{now}
-use mathlib.Core.Path.{_≡_, sym, ap, ap₂, _∙_}
+use mathlib.Core.Path.{_≡_, ap, ap₂, _∙_}
 use Prim.Native.Nat.{ℕ}
 use lib.ListN.{set}
 use Rattle.chip.specs.Slices.{rowAt}
 use Rattle.chip.specs.Tallies.{_gains_, withGain}
 use Rattle.repair.specs.Finding.{foundOf, leftBy, pulsesBy}
-use Rattle.repair.specs.declared.finding.Found.{Found}
 use Rattle.repair.proofs.Bits.{found-low}
 use Rattle.repair.proofs.pass.repair_row.Statement.{statement}
 use Rattle.repair.proofs.pass.repair_row.Tie as tie

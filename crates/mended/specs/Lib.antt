@@ -1,0 +1,4 @@
+pub mod Rows
+pub mod Passes
+pub mod Second
+pub mod Cutting
