@@ -4,8 +4,8 @@
  * On an image of a blank chip it keeps a screen's width in a row, shows how much of the page is burnt, reads the width with a worn bit and
  * with a worn flag, and locks its page. On a second blank chip it burns the bootloader's lock, so that a USB loader reads the width and
  * cannot write it. On a third it rehearses a job up to a power cut, and then runs it. On a fourth the same job comes over a serial lead, a few
- * bytes at a time. On a fifth a job is made of the rows as they are and as they are to be, and is read and run. It prints what happens, and
- * exits 1 where that is not what document 01 and its requests say.
+ * bytes at a time. On a fifth a job is made of the rows as they are and as they are to be, and is read and run. On a sixth old rows are
+ * repaired. It prints what happens, and exits 1 where that is not what document 01 and its requests say.
  *
  *     rt staticlib otp
  *     cc -std=c11 -Iinclude examples/desk.c target/staticlib/libotp.a -o target/desk
@@ -257,6 +257,46 @@ static void make_a_job(void)
     expect("the number of a lost bit", lost.number, OTP_REFUSED_LOST);
 }
 
+/* The rows to look at, and what is found of each. */
+static const uint32_t listed[] = {0x0c0, 0x0c1, 0x0c2, 0x0c3, 0x100};
+static uint32_t report[5];
+
+/* What is found of a row, in words, and what it must be. */
+static void found(uint32_t i, uint32_t kind, uint32_t bit)
+{
+    static const char *const kinds[] = {"clean", "mended", "worn", "damaged", "not permitted"};
+    printf("  row 0x%03x: %s", (unsigned)listed[i], kinds[report[i] % 256]);
+    if (report[i] % 256 == OTP_ROW_MENDED)
+        printf(", bit %u burnt", (unsigned)(report[i] / 256));
+    printf("\n");
+    expect("the kind of the row", report[i] % 256, kind);
+    expect("the bit of the row", report[i] / 256, bit);
+}
+
+/* Old rows: the width with a faded bit, a blank row, one with a 1 too many, one that does not decode, and one on a page that is locked. The
+   faded bit is burnt again, and what burning cannot mend is left as it was. */
+static void repair_old_rows(void)
+{
+    otp_state state = blank_chip();
+    rows[0x0c0] = 0x060100;
+    rows[0x0c2] = 0x230011;
+    rows[0x0c3] = 0x000003;
+    otp_outcome again = otp_reset(rows, OTP_ROWS, state);
+    otp_outcome locked = otp_advance(again.state, OTP_SECURE, OTP_SECURE, 4, OTP_READ_ONLY);
+    otp_outcome out = otp_repair(rows, OTP_ROWS, locked.state, listed, 5, report, 5);
+    printf("repaired: number %u, %u pulses, row 0x0c0 is 0x%06x\n", (unsigned)out.answer.number, (unsigned)out.answer.pulses,
+           (unsigned)rows[0x0c0]);
+    expect("the number of the repair", out.answer.number, OTP_DONE);
+    expect("the pulses of the repair", out.answer.pulses, 1);
+    expect("the mended row", rows[0x0c0], 0x060140);
+    found(0, OTP_ROW_MENDED, 6);
+    found(1, OTP_ROW_CLEAN, 0);
+    found(2, OTP_ROW_WORN, 0);
+    found(3, OTP_ROW_DAMAGED, 0);
+    found(4, OTP_ROW_NOT_PERMITTED, 0);
+    show_burnt(out.state, PAGE, 11);
+}
+
 int main(void)
 {
     keep_a_width();
@@ -264,5 +304,6 @@ int main(void)
     run_a_job();
     take_a_job();
     make_a_job();
+    repair_old_rows();
     return wrong == 0 ? 0 : 1;
 }
