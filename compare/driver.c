@@ -7,18 +7,19 @@
  *
  *     request     call, two counts of rows lent, two counts of entries, counts of two lots of bytes, four arguments, the state (636
  *                 bytes), the entries (place, value) of the one image and of the other, then the bytes: those of a key, a job, an area or
- *                 an output, and those of a chunk. The arguments of a call that takes a note are its 16 bytes, those of one that takes a
- *                 place its two halves, low half first, and that of one that takes two images is 1 where the first is lent for both
+ *                 an output, and those of a chunk; or those of a report and of a list of rows, four for each entry. The arguments of a
+ *                 call that takes a note are its 16 bytes, those of one that takes a place its two halves, low half first, and that of one
+ *                 that takes two images is 1 where the first is lent for both
  *     reply       count of entries, the answer (32 bytes), the state if the call gives one back, or the note (16 bytes) and the area's
- *                 bytes, or the output's bytes, then the entries (place, value) that the call changed. In the answer's place stands what
- *                 the reader hands over (28 bytes)
+ *                 bytes, or the output's bytes, or the state and the report's bytes, then the entries (place, value) that the call changed.
+ *                 In the answer's place stands what the reader hands over (28 bytes)
  *
  * One request is for many calls, READ_EACH: a row is read with ECC once for each of many entries in it, which go up by one. Its
  * arguments are the caller, the row, the first entry and how many. Its reply has as many answers, and the row is left as it was.
  *
  * The whole image is looked at after each request, so a change to an entry that the call was not lent is told too. A call that changes
- * the second image, bytes which it was lent to read, or bytes behind those that it was lent, ends the program with one line and 1, and so
- * does a request that is none of these.
+ * the second image, bytes which it was lent to read, a list too, or bytes behind those that it was lent, ends the program with one line and
+ * 1, and so does a request that is none of these.
  *
  *     rt staticlib otp
  *     cc -std=c11 -O2 -Iinclude compare/driver.c target/staticlib/libotp.a -o target/driver
@@ -34,7 +35,7 @@ enum { ENTRIES = 8192, MOST_BYTES = 65536, BEHIND = 1024, MOST_ANSWERS = 65536, 
 /* The calls, in the order of the list in src/call.rs: tests/driver.rs holds the two to each other. */
 typedef enum {
     RESET, READ_RAW, READ_ECC, READ_VOTE, WRITE_RAW, WRITE_ECC, ADVANCE, SHOW, ENTER_KEY, RUN_JOB, REHEARSE, TAKE_CHUNK, END_JOB,
-    MAKE_JOB, NEXT_ENTRY
+    MAKE_JOB, NEXT_ENTRY, REPAIR
 } call;
 
 /* The same as in src/driver.rs, and no place in the list. */
@@ -79,9 +80,13 @@ static uint32_t wanted_before[ENTRIES];
 static entry entries[ENTRIES];
 static otp_answer answers[MOST_ANSWERS];
 
-/* A lot of bytes, and the same before the call. Some lie behind those that a call is lent: what the requests before it left there. */
+/* A lot of bytes, which may be those of entries, and the same before the call. Some lie behind those that a call is lent: what the requests
+   before it left there. */
 typedef struct {
-    uint8_t now[MOST_BYTES + BEHIND];
+    union {
+        uint8_t now[MOST_BYTES + BEHIND];
+        uint32_t entries[(MOST_BYTES + BEHIND) / sizeof(uint32_t)];
+    };
     uint8_t before[MOST_BYTES + BEHIND];
 } lot;
 static lot lots[2];
@@ -163,7 +168,7 @@ static uint32_t changed(void)
     return count;
 }
 
-/* What comes back of a call: how much of it is to be told, and how many bytes of the area or the output with it. */
+/* What comes back of a call: how much of it is to be told, and how many bytes of the area, the output or the report with it. */
 typedef struct {
     union {
         otp_answer answer;
@@ -179,6 +184,7 @@ static made answer(otp_answer back) { return (made){.back.answer = back, .size =
 static made outcome(otp_outcome back) { return (made){.back.outcome = back, .size = sizeof back}; }
 static made taken(otp_taken back, size_t area) { return (made){.back.taken = back, .size = sizeof back, .area = area}; }
 static made output(otp_answer back, size_t area) { return (made){.back.answer = back, .size = sizeof back, .area = area}; }
+static made passed(otp_outcome back, size_t area) { return (made){.back.outcome = back, .size = sizeof back, .area = area}; }
 
 /* Nothing is promised of what lies behind the last field. */
 static made handed(otp_entry back) { return (made){.back.handed = back, .size = offsetof(otp_entry, value) + sizeof back.value}; }
@@ -198,6 +204,14 @@ static made make_job(const request *r, uint8_t *out, uint64_t length)
     bool same = r->arguments[0] != 0;
 
     return output(otp_make_job(image, r->rows_len, same ? image : wanted, same ? r->rows_len : r->wanted_len, out, length), length);
+}
+
+/* Repairs the rows of the second lot, and leaves what is told of them in the first. */
+static made repair(const request *r)
+{
+    uint64_t told = r->bytes[0] / sizeof(uint32_t), listed = r->bytes[1] / sizeof(uint32_t);
+
+    return passed(otp_repair(image, r->rows_len, r->state, lots[1].entries, listed, lots[0].entries, told), r->bytes[0]);
 }
 
 /* Makes the call. There is no default, so that the compiler names a call that is missing. */
@@ -238,6 +252,8 @@ static made make(const request *r)
         return make_job(r, bytes, length);
     case NEXT_ENTRY:
         return handed(otp_next_entry(bytes, length, a[0] | (uint64_t)a[1] << 32));
+    case REPAIR:
+        return repair(r);
     }
     stop("there is no such call");
 }

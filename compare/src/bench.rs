@@ -1,11 +1,12 @@
 //! Makes each call on both sides and compares everything that comes back: the answer, the state, every row, a chunk's note and area, the
-//! output of a job that is made, and what the reader hands over.
+//! output of a job that is made, what the reader hands over, and a repair pass's report.
 
 use crate::call::{Call, Chip};
 use crate::counts::Counts;
 use crate::ends::Ends;
 use crate::locks::{key_page, owner};
 use crate::pair_kinds::{Made, Run, PAIRS, RUNS};
+use crate::pass_kinds::{Again, Looked, Passed, AGAIN, LOOKED, PASSES};
 use crate::shape::{Answer, Beside, Handed, Lead, Outcome, State, ROWS};
 use crate::tried::Tried;
 use crate::walked::{Step, PLACES};
@@ -30,6 +31,9 @@ pub struct Bench<'a> {
     pub pairs: Tried<Made>,
     pub runs: Tried<Run>,
     pub places: Tried<Step>,
+    pub passes: Tried<Passed>,
+    pub looked: Tried<Looked>,
+    pub again: Tried<Again>,
 }
 
 impl<'a> Bench<'a> {
@@ -46,6 +50,9 @@ impl<'a> Bench<'a> {
             pairs: Tried::new(PAIRS),
             runs: Tried::new(RUNS),
             places: Tried::new(PLACES),
+            passes: Tried::new(PASSES),
+            looked: Tried::new(LOOKED),
+            again: Tried::new(AGAIN),
         }
     }
 
@@ -113,6 +120,19 @@ impl<'a> Bench<'a> {
             Beside::Handed(handed) => Ok(handed),
             _ => Err(Difference("the reader hands nothing over".to_string())),
         }
+    }
+
+    /// Repairs the listed rows among so many, and leaves what is told of them in the report.
+    pub fn repair(&mut self, lent: usize, list: &[u32], report: &mut Vec<u32>) -> Result<Answer, Difference> {
+        let call = Call::Repair {
+            report: report.clone(),
+            list: list.to_vec(),
+        };
+        let made = self.made(&call, lent)?;
+        if let Beside::Report(left) = made.beside {
+            *report = left;
+        }
+        Ok(made.answer)
     }
 
     /// Makes the call on both sides, and gives what came back.

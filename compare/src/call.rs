@@ -1,11 +1,12 @@
 //! The calls, in one list: each with its arguments, the rows that it is lent, what comes back, and the numbers that it
 //! can give. A new call is a new line of it: the compiler then asks for it wherever one call is told from another.
 
+use std::borrow::Cow;
 use std::fmt;
 use std::ops::Range;
 
-use crate::part::Part;
-use crate::shape::{Answer, Lead, Note, Outcome, State, ROWS, SECURE};
+use crate::given::Argument;
+use crate::shape::{Answer, Lead, Outcome, State, ROWS, SECURE};
 
 /// What makes calls: the library, the model.
 pub trait Chip {
@@ -32,11 +33,13 @@ pub enum Lent {
     ToBurn,
 }
 
-/// What comes back: an answer alone, or the state too, or the note and the area, or the output; or what the reader hands over.
+/// What comes back: an answer alone, or the state too, or the state and the report, or the note and the area, or the output; or what the reader
+/// hands over.
 #[derive(Clone, Copy, Debug, PartialEq, Eq)]
 pub enum Back {
     Answer,
     State,
+    Report,
     Lead,
     Output,
     Handed,
@@ -48,71 +51,6 @@ pub struct Kind {
     pub lent: Lent,
     pub back: Back,
     pub numbers: &'static [u32],
-}
-
-/// An argument of a call.
-enum Argument<'a> {
-    Number(u32),
-    Place(u64),
-    Bytes(&'a [u8]),
-    Lead(&'a Lead),
-    Image(Option<&'a [u32]>),
-}
-
-impl<'a> Argument<'a> {
-    /// The numbers that the driver takes for it: a place is two, low half first, the bytes of a note are four, and of an image it takes
-    /// whether it is the rows once more.
-    fn numbers(&self) -> Vec<u32> {
-        match self {
-            Argument::Number(number) => vec![*number],
-            Argument::Place(place) => vec![*place as u32, (place >> 32) as u32],
-            Argument::Bytes(_) => Vec::new(),
-            Argument::Image(image) => vec![u32::from(image.is_none())],
-            Argument::Lead(lead) => {
-                let mut bytes = Vec::new();
-                lead.note.put(&mut bytes);
-                <[u32; 4]>::take(&mut bytes.as_slice()).map_or(Vec::new(), Vec::from)
-            }
-        }
-    }
-
-    fn bytes(&self) -> Option<&'a [u8]> {
-        match self {
-            Argument::Number(_) | Argument::Place(_) | Argument::Image(_) => None,
-            Argument::Bytes(bytes) => Some(bytes),
-            Argument::Lead(lead) => Some(&lead.area),
-        }
-    }
-}
-
-impl From<&u32> for Argument<'_> {
-    fn from(number: &u32) -> Self {
-        Argument::Number(*number)
-    }
-}
-
-impl From<&u64> for Argument<'_> {
-    fn from(place: &u64) -> Self {
-        Argument::Place(*place)
-    }
-}
-
-impl<'a> From<&'a Option<Vec<u32>>> for Argument<'a> {
-    fn from(image: &'a Option<Vec<u32>>) -> Self {
-        Argument::Image(image.as_deref())
-    }
-}
-
-impl<'a> From<&'a Vec<u8>> for Argument<'a> {
-    fn from(bytes: &'a Vec<u8>) -> Self {
-        Argument::Bytes(bytes)
-    }
-}
-
-impl<'a> From<&'a Lead> for Argument<'a> {
-    fn from(lead: &'a Lead) -> Self {
-        Argument::Lead(lead)
-    }
 }
 
 /// Makes of the list the type of a call, the kinds of calls, and the way from a call to its line and its arguments.
@@ -164,6 +102,7 @@ calls! {
     "end_job"    EndJob { lead: Lead }                                       ToBurn, State,  [0, 1, 12, 10, 11, 7, 3, 9];
     "make_job"   MakeJob { wanted: Option<Vec<u32>>, out: Vec<u8> }          ToRead, Output, [0, 1, 3, 13, 11, 14, 12];
     "next_entry" NextEntry { at: u64, job: Vec<u8> }                         Never,  Handed, [0, 10];
+    "repair"     Repair { report: Vec<u32>, list: Vec<u32> }                 ToBurn, Report, [0, 1, 11, 12, 3];
 }
 
 impl Call {
@@ -189,8 +128,9 @@ impl Call {
         four
     }
 
-    /// The bytes of a key, a job or an output, or those of an area and of a chunk, where the call has them: the driver takes two lots.
-    pub fn bytes(&self) -> [&[u8]; 2] {
+    /// The bytes of a key, a job or an output, or those of an area and of a chunk, or of a report and of a list, where the call has them: the
+    /// driver takes two lots, of which the first may come back.
+    pub fn bytes(&self) -> [Cow<'_, [u8]>; 2] {
         let mut lots = self
             .arguments()
             .into_iter()
@@ -225,36 +165,11 @@ impl Call {
     }
 }
 
-/// Bytes for a report: all of them, or of many the first. The same seed makes the same bytes again.
-fn hex(bytes: &[u8]) -> String {
-    let shown = bytes.len().min(67);
-    let list: Vec<String> = bytes[..shown].iter().map(|byte| format!("{byte:02X}")).collect();
-    let more = if shown < bytes.len() { " ..." } else { "" };
-    format!("{} bytes [{}{more}]", bytes.len(), list.join(" "))
-}
-
 impl fmt::Display for Call {
     fn fmt(&self, out: &mut fmt::Formatter) -> fmt::Result {
         write!(out, "{}", self.kind().name)?;
         for (name, argument) in self.arguments() {
-            match argument {
-                Argument::Number(row) if name == "row" => write!(out, " row {row:#05x}")?,
-                Argument::Number(value) if name == "value" => write!(out, " value {value:#x}")?,
-                Argument::Number(number) => write!(out, " {name} {number}")?,
-                Argument::Place(place) => write!(out, " {name} {place}")?,
-                Argument::Image(None) => write!(out, " {name} the same rows")?,
-                Argument::Image(Some(image)) => write!(out, " {name} {} rows", image.len())?,
-                Argument::Bytes(bytes) => write!(out, " {name} {}", hex(bytes))?,
-                Argument::Lead(Lead { note, area }) => {
-                    let Note { counted, least, part } = note;
-                    write!(
-                        out,
-                        " counted {counted} least {least} part {} area {}",
-                        hex(part),
-                        hex(area)
-                    )?;
-                }
-            }
+            argument.show(name, out)?;
         }
         Ok(())
     }

@@ -43,11 +43,12 @@ impl Chip for Model {
             Call::EndJob { ref lead } => self.ended(rows, &state, lead),
             Call::MakeJob { ref wanted, ref out } => self.make_job(rows, wanted, out, kept),
             Call::NextEntry { at, ref job } => Ok(self.next_entry(at, job, kept)),
+            Call::Repair { ref report, ref list } => self.repaired(rows, &state, list, report),
         };
         done.unwrap_or_else(|number| Outcome {
             answer: self.refusal(call, rows, number),
-            state: self.refused_state(call, rows, state),
-            beside: self.refused_beside(call, rows, number),
+            beside: self.refused_beside(call, rows, &state, number),
+            state: self.refused_state(call, rows, state, number),
         })
     }
 }
@@ -77,8 +78,8 @@ impl Model {
         }
     }
 
-    /// The state that a refusal leaves: the one that came in. Faults let a refused raw write name its row's page.
-    fn refused_state(&self, call: &Call, rows: &[u32], state: State) -> State {
+    /// The state that a refusal leaves: the one that came in. Faults let a refused raw write name its row's page, and a refused pass its list's.
+    fn refused_state(&self, call: &Call, rows: &[u32], state: State, number: u32) -> State {
         let counts = self.has(Fault::RefusedCounts);
         match *call {
             Call::WriteRaw { row, value, .. } if counts || self.has(Fault::RefusedLowers) => {
@@ -89,6 +90,7 @@ impl Model {
                 let whole = new;
                 kept(self.fault, &state, &[Named { row, old, new, whole }])
             }
+            Call::Repair { ref list, .. } => self.refused_pass(rows, &state, list, number),
             _ => state,
         }
     }
@@ -104,14 +106,15 @@ impl Model {
         }
     }
 
-    /// The note and the area that a refused chunk leaves, and the output that a job leaves which is not made.
-    fn refused_beside(&self, call: &Call, rows: &[u32], number: u32) -> Beside {
+    /// The note and the area that a refused chunk leaves, the output that a job leaves which is not made, and a refused pass's report.
+    fn refused_beside(&self, call: &Call, rows: &[u32], state: &State, number: u32) -> Beside {
         match call {
             Call::TakeChunk { lead, chunk } => Beside::Lead(self.kept_lead(lead, chunk)),
             Call::MakeJob { wanted, out } => {
                 let job = self.job_of(rows, wanted.as_deref().unwrap_or(rows));
                 Beside::Output(self.kept_output(&job, out, number))
             }
+            Call::Repair { report, list } => Beside::Report(self.kept_report(rows, state, list, report, number)),
             _ => Beside::Nothing,
         }
     }

@@ -77,7 +77,7 @@ impl Driver {
         self.send(&Request {
             call: call.index(),
             numbers: call.numbers(),
-            lots,
+            lots: [&lots[0], &lots[1]],
             images: [rows, call.image()],
             state,
         })?;
@@ -128,7 +128,7 @@ impl Driver {
         self.request.extend(asked.lots.concat());
     }
 
-    /// What the call gives back, with an area or an output of so many bytes if it does.
+    /// What the call gives back, with an area, an output or a report of so many bytes if it does.
     fn receive(&mut self, back: Back, length: usize) -> Result<Reply, String> {
         let count: u32 = self.read()?;
         let (mut state, mut beside) = (None, Beside::Nothing);
@@ -143,6 +143,10 @@ impl Driver {
         match back {
             Back::Answer | Back::Handed => {}
             Back::State => state = Some(self.read()?),
+            Back::Report => {
+                state = Some(self.read()?);
+                beside = Beside::Report(entries(&self.receive_bytes(length)?));
+            }
             Back::Lead => {
                 let note = self.read()?;
                 let area = self.receive_bytes(length)?;
@@ -197,6 +201,12 @@ impl Driver {
             Err(_) => format!("the driver does not answer: {error}"),
         }
     }
+}
+
+/// The report entries of these bytes.
+fn entries(bytes: &[u8]) -> Vec<u32> {
+    let entry = |four: &[u8]| u32::from_le_bytes([four[0], four[1], four[2], four[3]]);
+    bytes.chunks_exact(4).map(entry).collect()
 }
 
 /// The places where the rows are not as in the image.

@@ -1,5 +1,5 @@
-//! The mix of calls: one image after another, each met by some hundred calls, with cut jobs, jobs sent in chunks, jobs made of two images and
-//! jobs read by their entries in between.
+//! The mix of calls: one image after another, each met by some hundred calls, with cut jobs, jobs sent in chunks, jobs made of two images,
+//! jobs read by their entries and repair passes in between.
 
 use crate::arguments;
 use crate::bench::{Bench, Difference};
@@ -15,6 +15,7 @@ use crate::makings;
 use crate::random::Random;
 use crate::readings;
 use crate::recount::tallies_are_right;
+use crate::repairs;
 use crate::sequences;
 use crate::shape::{State, ROWS};
 use crate::spoilt;
@@ -28,12 +29,13 @@ pub fn run(bench: &mut Bench, codes: &Codes, sound: &dyn Chip, calls: u64, seed:
     let mut random = Random::new(seed);
     while bench.counts.calls < calls {
         let room = calls - bench.counts.calls;
-        match random.below(22) {
+        match random.below(27) {
             0..=5 if room >= sequences::MOST_CALLS => sequences::cut(&mut random, bench, codes)?,
             6..=9 if room >= cuttings::MOST_CALLS => cuttings::send(&mut random, bench, codes)?,
             10..=13 if room >= leads::MOST_CALLS => leads::any(&mut random, bench, codes)?,
             14..=17 if room >= makings::MOST_CALLS => makings::make(&mut random, bench, codes)?,
             18 | 19 if room >= readings::MOST_CALLS => readings::read(&mut random, bench, codes)?,
+            20..=24 if room >= repairs::MOST_CALLS => repairs::repair(&mut random, bench, codes)?,
             _ => episode(&mut random, bench, codes, sound, room.min(EPISODE))?,
         }
     }
@@ -147,8 +149,16 @@ fn draw(random: &mut Random, bench: &mut Bench, image: &Image, codes: &Codes, so
             caller,
             key: arguments::key(random, image),
         },
+        91 => repair(random, image),
         _ => job(random, bench, image, codes, sound, made),
     }
+}
+
+/// Draws a repair pass over rows as they stand.
+fn repair(random: &mut Random, image: &Image) -> Call {
+    let list = repairs::list(random, image);
+    let report = repairs::report(random, list.len());
+    Call::Repair { report, list }
 }
 
 /// Before a job: now and then other entries in the rows that it names.

@@ -31,6 +31,13 @@ pub const REPAIRED: u32 = 1;
 pub const FLAG_WORN: u32 = 2;
 pub const FLAG_WORN_REPAIRED: u32 = 3;
 
+/// The kinds of a report entry (request 2026-11).
+pub const ROW_CLEAN: u32 = 0;
+pub const ROW_MENDED: u32 = 1;
+pub const ROW_WORN: u32 = 2;
+pub const ROW_DAMAGED: u32 = 3;
+pub const ROW_NOT_PERMITTED: u32 = 4;
+
 /// The polarities of a row.
 pub const PLAIN: u32 = 0;
 pub const INVERTED: u32 = 1;
@@ -145,14 +152,15 @@ shape! {
     }
 }
 
-/// What comes back beside an answer: of a chunk the note and the area that it leaves, of a job that is made the output, and of the reader what
-/// it hands over.
+/// What comes back beside an answer: of a chunk the note and the area that it leaves, of a job that is made the output, of the reader what it
+/// hands over, and of a repair pass the report.
 #[derive(Clone, Debug, PartialEq, Eq)]
 pub enum Beside {
     Nothing,
     Lead(Lead),
     Output(Vec<u8>),
     Handed(Handed),
+    Report(Vec<u32>),
 }
 
 impl Beside {
@@ -162,6 +170,7 @@ impl Beside {
             (Beside::Lead(theirs), Beside::Lead(ours)) => theirs.differs(ours),
             (Beside::Output(theirs), Beside::Output(ours)) => byte_differs(theirs, ours, "output"),
             (Beside::Handed(theirs), Beside::Handed(ours)) => theirs.differs(ours, "entry"),
+            (Beside::Report(theirs), Beside::Report(ours)) => told_differs(theirs, ours),
             _ => None,
         }
     }
@@ -172,6 +181,13 @@ fn byte_differs(theirs: &[u8], ours: &[u8], name: &str) -> Option<String> {
     let mut bytes = theirs.iter().zip(ours).enumerate();
     let (place, (theirs, ours)) = bytes.find(|(_, (theirs, ours))| theirs != ours)?;
     Some(format!("{name}[{place}]: library {theirs:#04x}, model {ours:#04x}"))
+}
+
+/// The first report entry in which the library's differs from the model's.
+fn told_differs(theirs: &[u32], ours: &[u32]) -> Option<String> {
+    let mut entries = theirs.iter().zip(ours).enumerate();
+    let (place, (theirs, ours)) = entries.find(|(_, (theirs, ours))| theirs != ours)?;
+    Some(format!("report[{place}]: library {theirs:#06x}, model {ours:#06x}"))
 }
 
 /// What comes back of a call: its answer, the state afterwards, and what there is beside them. Of the reader the answer is its number alone.

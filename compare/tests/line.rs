@@ -2,9 +2,10 @@
 
 use std::fs;
 
-const LINE: [&str; 22] = [
+const LINE: [&str; 25] = [
     "part",
     "shape",
+    "given",
     "call",
     "fault",
     "ladder",
@@ -24,6 +25,8 @@ const LINE: [&str; 22] = [
     "lead",
     "make",
     "reader",
+    "mending",
+    "repair",
     "calls",
 ];
 

@@ -1,15 +1,18 @@
-//! The timed rules against the model, on the comparison's own mix of calls, on every cutting of a job, on every pair of images and on every place
-//! in a job: else a time would say nothing.
+//! The timed rules against the model, on the comparison's own mix of calls, on every cutting of a job, on every pair of images, on every place
+//! in a job and on every worn row: else a time would say nothing.
 
 use compare::bench::Bench;
 use compare::call::{Call, Chip};
 use compare::every_cutting::every_cutting;
 use compare::every_ground::every_ground;
+use compare::every_list::every_list;
 use compare::every_note::every_note;
+use compare::every_page::every_page;
 use compare::every_pair::every_pair;
 use compare::every_place::every_place;
+use compare::every_worn_row::every_worn_row;
 use compare::model::Model;
-use compare::plain::{access, chip, jobs, lead as plain, make, reader};
+use compare::plain::{access, chip, jobs, lead as plain, make, reader, repair};
 use compare::run::run;
 use compare::shape::{Answer, Beside, Lead, Outcome, State};
 
@@ -54,6 +57,12 @@ impl Chip for Plain {
                 beside = Beside::Handed(handed);
                 Answer::refused(handed.number)
             }
+            Call::Repair { ref report, ref list } => {
+                let mut report = report.clone();
+                let answer = repair::repair(rows, &mut state, list, &mut report);
+                beside = Beside::Report(report);
+                answer
+            }
         };
         Outcome { answer, state, beside }
     }
@@ -69,4 +78,7 @@ fn the_plain_rules_answer_as_the_model_does() {
     every_ground(&mut bench).expect("no call differs");
     every_pair(&mut bench).expect("no call differs");
     every_place(&mut bench).expect("no call differs");
+    every_list(&mut bench).expect("no call differs");
+    every_page(&mut bench).expect("no call differs");
+    every_worn_row(&mut bench).expect("no call differs");
 }

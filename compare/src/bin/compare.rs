@@ -11,6 +11,7 @@
 //!     compare --versions                      jobs of every version over the border rows, and version 2 jobs cut at every pulse
 //!     compare --lead                          jobs sent in chunks, cut at every byte, and every kind of note and area
 //!     compare --make                          jobs made of pairs of images of every kind, and read at every place
+//!     compare --repair                        repair passes over rows with every one or two wrong bits, and lists and reports of every kind
 //!     compare [CALLS] [SEED] --plug-ins       Non-secure calls on two chips that agree; 200,000 random ones and seed 1 where not given
 //!     compare --plug-ins --fault NAME         the same with the model, with one fault, in the library's place: does it leak?
 //!
@@ -28,12 +29,15 @@ use compare::counts::to_anyone;
 use compare::every::{every_read, every_write};
 use compare::every_cutting::every_cutting;
 use compare::every_ground::every_ground;
+use compare::every_list::every_list;
 use compare::every_lock_cut::every_lock_cut;
 use compare::every_note::every_note;
+use compare::every_page::every_page;
 use compare::every_pair::every_pair;
 use compare::every_place::every_place;
 use compare::every_tally::every_tally;
 use compare::every_version::every_version;
+use compare::every_worn_row::every_worn_row;
 use compare::face::{self, Library};
 use compare::fault::{named, Fault, FAULTS};
 use compare::lock_bytes::every_lock_byte;
@@ -58,6 +62,7 @@ enum Mode {
     Versions,
     Lead,
     Make,
+    Repair,
     PlugIns,
 }
 
@@ -96,6 +101,7 @@ fn wish() -> Result<Wish, String> {
             "--versions" => wish.mode = Mode::Versions,
             "--lead" => wish.mode = Mode::Lead,
             "--make" => wish.mode = Mode::Make,
+            "--repair" => wish.mode = Mode::Repair,
             "--plug-ins" => wish.mode = Mode::PlugIns,
             _ => numbers.push(word.parse::<u64>().map_err(|_| format!("not understood: '{word}'"))?),
         }
@@ -123,6 +129,9 @@ fn compare(wish: &Wish, library: &Library, sound: &Model) -> Result<(), String> 
     bench.pairs.print("pairs of images");
     bench.runs.print("runs of jobs made of them");
     bench.places.print("places in a job's bytes");
+    bench.passes.print("repair passes");
+    bench.looked.print("rows listed for them");
+    bench.again.print("passes made again");
     result.map_err(|Difference(line)| format!("seed {}: {line}", wish.seed))?;
     if let Some((name, number)) = bench.counts.missing(to_anyone) {
         return Err(format!("{name} never gave {number} in {} calls", bench.counts.calls));
@@ -142,6 +151,9 @@ fn never_tried(bench: &Bench) -> Option<String> {
         ("pair of images was", bench.pairs.missing()),
         ("run of a job made of two images was", bench.runs.missing()),
         ("place in a job's bytes was", bench.places.missing()),
+        ("repair pass was", bench.passes.missing()),
+        ("row listed for a repair pass was", bench.looked.missing()),
+        ("repair pass was made again", bench.again.missing()),
     ];
     kinds
         .into_iter()
@@ -187,7 +199,7 @@ fn every(
 /// Makes calls on a bench, the same ones each time.
 type Calls = fn(&mut Bench) -> Result<(), Difference>;
 
-/// Every lock row, every caller, every tally, every version, every cutting, or every pair: one list of calls after another, on one bench.
+/// Every lock row, every caller, every tally, every version, every cutting, every pair, or every worn row: one list of calls after another, on one bench.
 fn all_of(calls: &[Calls], wish: &Wish, library: &Library, sound: &Model) -> Result<(), String> {
     let model = wish.fault.map_or(sound.clone(), Model::faulty);
     let mut bench = Bench::new(library, &model);
@@ -265,6 +277,7 @@ fn main() -> ExitCode {
         Mode::Versions => all_of(&[every_version, every_lock_cut], &wish, &library, &sound),
         Mode::Lead => all_of(&[every_cutting, every_note], &wish, &library, &sound),
         Mode::Make => all_of(&[every_ground, every_pair, every_place], &wish, &library, &sound),
+        Mode::Repair => all_of(&[every_list, every_page, every_worn_row], &wish, &library, &sound),
         Mode::PlugIns => plug_ins(&wish, &library, &sound),
     };
     match done {

@@ -12,6 +12,7 @@ pub mod jobs;
 pub mod lead;
 pub mod make;
 pub mod reader;
+pub mod repair;
 pub mod row;
 pub mod tallies;
 
