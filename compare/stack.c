@@ -1,14 +1,15 @@
 /* The most stack that each call of libotp.a uses, for docs/TIMINGS.md. It is measured: the call runs on a stack of its own that was
    painted before. Each call is made on a board of 512 burnt rows, by Secure, and is done (number 0). The job that is made burns these 512
-   rows into a blank board. */
+   rows into a blank board. A repair pass goes over a page of the board with the lowest 1 of each of its rows worn away, and over all rows
+   that a list can have. */
 #include <stdio.h>
 #include <string.h>
 #include <ucontext.h>
 #include "otp.h"
 
-enum { ROWS = 4096, JOB = 7 + 6 * 512, STACK = 65536 };
+enum { ROWS = 4096, LISTED = 0xf40, JOB = 7 + 6 * 512, STACK = 65536 };
 
-static uint32_t blank[ROWS], burnt[ROWS], rows[ROWS];
+static uint32_t blank[ROWS], burnt[ROWS], worn[ROWS], rows[ROWS], list[LISTED], report[LISTED];
 static uint8_t job[JOB], area[OTP_AREA_BYTES], out[OTP_JOB_BYTES], key[16] = {1};
 static const otp_note none, all = {.counted = JOB};
 static otp_state state;
@@ -32,6 +33,8 @@ static void take_byte(void) { answer = otp_take_chunk(area, sizeof area, none, j
 static void take_chunk(void) { answer = otp_take_chunk(area, sizeof area, none, job, JOB).answer; }
 static void end_job(void) { keep(otp_end_job(rows, ROWS, state, area, sizeof area, all)); }
 static void make_job(void) { answer = otp_make_job(rows, ROWS, burnt, ROWS, out, sizeof out); }
+static void repair_64(void) { keep(otp_repair(rows, ROWS, state, list + 9 * OTP_PAGE_ROWS, OTP_PAGE_ROWS, report, LISTED)); }
+static void repair_all(void) { keep(otp_repair(rows, ROWS, state, list, LISTED, report, LISTED)); }
 static void next_entry(void) { answer.number = otp_next_entry(job, JOB, 7).number; }
 
 static const struct { const char *name; void (*call)(void); const uint32_t *board; } calls[] = {
@@ -42,6 +45,7 @@ static const struct { const char *name; void (*call)(void); const uint32_t *boar
     /* What is ended is the job that the chunk before it left in the area. */
     {"take a byte", take_byte, burnt}, {"take a job of 512", take_chunk, burnt}, {"end a job of 512", end_job, blank},
     {"make a job of 512", make_job, blank}, {"read an entry", next_entry, burnt},
+    {"repair 64 rows", repair_64, worn}, {"repair 3,904 rows", repair_all, worn},
 };
 
 static size_t stack_used(void (*call)(void), const uint32_t *board)
@@ -72,6 +76,10 @@ int main(void)
     }
     run_job();
     memcpy(burnt, rows, sizeof rows);
+    for (unsigned row = 0; row < LISTED; row++) {
+        list[row] = row;
+        worn[row] = burnt[row] & (burnt[row] - 1);
+    }
     size_t empty = stack_used(nothing, blank);
     printf("call                   bytes of stack\n");
     for (size_t i = 0; i < sizeof calls / sizeof calls[0]; i++) {

@@ -1,21 +1,23 @@
 /* Each call of libotp.a on one struct that holds all that it takes, for src/bin/timings/. The face takes the state by value, and a
    call that can change it gives it back by value, so each of these copies it in and, where it comes back, out: what any caller in C
    does. The last two do nothing but that. Before them stands what a screen does with the state. A chunk begins at the note, and leaves
-   it as it was, so that the next does the same. A job is made of the rows and the wanted ones, and read by its entries as a printout does. */
+   it as it was, so that the next does the same. A job is made of the rows and the wanted ones, and read by its entries as a printout does.
+   A repair pass goes over the first rows of the list. */
 #include "otp.h"
 
-enum { ROWS = 4096, JOB = 7 + 6 * 512, KEY = 16, SINGLE = 100 };
+enum { ROWS = 4096, LISTED = 0xf40, JOB = 7 + 6 * 512, KEY = 16, SINGLE = 100 };
 
 /* The same as `Work` in src/bin/timings/work.rs. Aligned as a variable of its own would be: a state that is not is copied twice. */
 typedef struct {
     _Alignas(8) uint32_t rows[ROWS];
     uint32_t wanted[ROWS];
+    uint32_t list[LISTED], report[LISTED];
     uint8_t job[JOB];
     uint8_t out[OTP_JOB_BYTES];
     uint8_t key[KEY];
     uint8_t area[OTP_AREA_BYTES];
     otp_note note, noted;
-    uint32_t caller, row, count, value, domain, page, level, limit;
+    uint32_t caller, row, count, value, domain, page, level, limit, listed;
     otp_state state;
     otp_answer answer;
 } work;
@@ -83,6 +85,8 @@ void work_read_job(work *w)
     }
     w->answer = read;
 }
+
+void work_repair(work *w) { keep(w, otp_repair(w->rows, ROWS, w->state, w->list, w->listed, w->report, LISTED)); }
 
 void work_bits_burnt(work *w) { w->answer = (otp_answer){.value = w->state.tallies[w->page]}; }
 

@@ -1,11 +1,14 @@
 //! What the timed calls are made on, and the calls on both sides.
 
-use compare::plain::{access, chip, jobs, lead, make, reader, row, tallies};
+use compare::plain::{access, chip, jobs, lead, make, reader, repair as pass, row, tallies};
 use compare::random::Random;
 use compare::shape::{Answer, Note, State, AREA, LARGEST, ROWS, SECURE};
 
 const ENTRIES: usize = 512;
 const JOB: usize = 7 + 6 * ENTRIES;
+/// The most rows that a list can have, and the rows of a page.
+const LISTED: usize = 0xf40;
+const PAGE: usize = 64;
 /// The page that key 1 guards.
 const KEYED_PAGE: usize = 20;
 /// A row of that page that the job burns.
@@ -22,6 +25,8 @@ const VOTED_1: u32 = 0x010101;
 pub struct Work {
     pub rows: [u32; ROWS],
     pub wanted: [u32; ROWS],
+    pub list: [u32; LISTED],
+    pub report: [u32; LISTED],
     pub job: [u8; JOB],
     pub out: [u8; JOB],
     pub key: [u8; 16],
@@ -36,6 +41,7 @@ pub struct Work {
     pub page: u32,
     pub level: u32,
     pub limit: u32,
+    pub listed: u32,
     pub state: State,
     pub answer: Answer,
 }
@@ -76,6 +82,7 @@ sides! {
     work_end_job, end_job(w) => lead::end_job(&mut w.rows, &mut w.state, &w.area, &w.note);
     work_make_job, make_job(w) => make::make_job(&w.rows, &w.wanted, &mut w.out);
     work_read_job, read_job(w) => read_all(&w.job);
+    work_repair, repair(w) => repair_listed(w);
     work_bits_burnt, bits_burnt(w) => tallies::count_page(&w.rows, w.page);
 }
 
@@ -110,6 +117,42 @@ fn read_all(job: &[u8]) -> Answer {
         next = reader::next_entry(job, next.at);
     }
     read
+}
+
+/// The first rows of the list.
+fn repair_listed(work: &mut Work) -> Answer {
+    let list = &work.list[..work.listed as usize];
+    pass::repair(&mut work.rows, &mut work.state, list, &mut work.report)
+}
+
+/// Rows of every sort from a row on: a 1 lost in either polarity, clean in either, a 1 too many, a flag bit worn, and damaged.
+fn worn_from(work: &mut Work, first: usize, count: usize) {
+    for (place, list) in work.list.iter_mut().enumerate().take(count) {
+        *list = (first + place) as u32;
+        let plain = row::code((place * 129) as u16);
+        let lost = plain & plain.wrapping_sub(1);
+        let more = plain | (plain + 1);
+        work.rows[first + place] = match place % 8 {
+            0 | 1 => lost,
+            2 => more ^ LARGEST,
+            3 => plain,
+            4 => plain ^ LARGEST,
+            5 => more,
+            6 => plain ^ 0x40_0000,
+            _ => plain ^ 3,
+        };
+    }
+    work.listed = count as u32;
+}
+
+/// A page of worn rows, all of them listed.
+pub fn worn_page(work: &mut Work) {
+    worn_from(work, 9 * PAGE, PAGE);
+}
+
+/// Worn rows wherever a list can have one, all of them listed.
+pub fn worn_board(work: &mut Work) {
+    worn_from(work, 0, LISTED);
 }
 
 /// Something is burnt in every row, and the wanted rows are the same.
@@ -167,6 +210,8 @@ pub fn board() -> Work {
     let mut work = Work {
         rows: [0; ROWS],
         wanted: [0; ROWS],
+        list: [0; LISTED],
+        report: [0; LISTED],
         job: job(),
         out: [0; JOB],
         key: *b"sixteen byte key",
@@ -181,6 +226,7 @@ pub fn board() -> Work {
         page: 9,
         level: 1,
         limit: 2700,
+        listed: 0,
         state: State::blank(),
         answer: Answer::default(),
     };
