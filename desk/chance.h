@@ -1,5 +1,5 @@
-/* What desk/calls.c leaves to chance: the arguments of a call, jobs, the chunks that they come in, and what is wanted of rows. The same on
-   every machine. */
+/* What desk/calls.c leaves to chance: the arguments of a call, jobs, the chunks that they come in, what is wanted of rows, and lists of rows.
+   The same on every machine. */
 #ifndef CHANCE_H
 #define CHANCE_H
 
@@ -8,7 +8,7 @@
 #include <string.h>
 
 enum { FIRST_KEPT_ROW = 0xf40, FIRST_KEY_ROW = 0xf48, FIRST_VALID_ROW = 0xf79, FIRST_LOCK_ROW = 0xf80 };
-enum { HEAD = 7, ENTRY = 6, MOST_ENTRIES = 513, MOST_LENT = OTP_AREA_BYTES + 8 };
+enum { HEAD = 7, ENTRY = 6, MOST_ENTRIES = 513, MOST_LENT = OTP_AREA_BYTES + 8, MOST_LISTED = FIRST_KEPT_ROW + 1 };
 
 /* The job that was written last, with room for a byte too many. */
 static uint8_t job[HEAD + ENTRY * MOST_ENTRIES + 1];
@@ -205,6 +205,38 @@ static void some_wanted(uint32_t *image)
 
 /* How much of an output is lent: too little, enough for a few entries, or enough for all. */
 static uint64_t some_room(void) { return once_in(4) ? below(60) : EDGE(OTP_JOB_BYTES - 1, OTP_JOB_BYTES, MOST_LENT); }
+
+/* Spoils a list that is not empty in one place: by a row too high, one listed twice, or one that falls. Gives its length. */
+static uint32_t spoil_list(uint32_t *list, uint32_t count)
+{
+    uint32_t at = below(count);
+    switch (below(3)) {
+    case 0:
+        list[at] = EDGE(FIRST_KEPT_ROW, FIRST_LOCK_ROW, OTP_ROWS, 0x10000, 0xffffffff);
+        return count;
+    case 1:
+        list[count] = list[count - 1];
+        return count + 1;
+    default:
+        list[at] = 0;
+        return count;
+    }
+}
+
+/* Writes a list of rising rows, and gives its length: none, some of those that are used often and of others, or all that there may be. */
+static uint32_t some_list(uint32_t *list)
+{
+    uint32_t count = 0, share = once_in(40) ? 0 : EDGE(1, 3, 12), others = EDGE(2, 20, 300, FIRST_KEPT_ROW);
+    for (uint32_t row = 0; row < FIRST_KEPT_ROW; row++) {
+        bool often = row < 4 * OTP_PAGE_ROWS && row % OTP_PAGE_ROWS < 6;
+        if (share == 0 || once_in(often ? share : others))
+            list[count++] = row;
+    }
+    return count > 0 && once_in(6) ? spoil_list(list, count) : count;
+}
+
+/* How much of a report is lent for so many rows: too little, just enough, or more. */
+static uint64_t some_told(uint32_t count) { return once_in(8) ? below(count + 1) : count + (once_in(2) ? 0 : below(MOST_LISTED - count + 1)); }
 
 /* Any note, which may be one that no chunk gives. */
 static otp_note some_note(void)

@@ -3,48 +3,21 @@
    Secure, but for one read by the bootloader, and is done (number 0). What C does to pass the state and to take it back is part of the call.
    The job of 512 comes in one chunk too, which its end follows; and of its bytes one by one, in a hundred calls, the first hundred of its
    entries and the last hundred of all. A job is made of the full chip and of one with 512 rows burnt further, and of two that are equal,
-   and is read entry by entry. The last two are no calls: how a screen comes by the bits burnt in a page of the board, with the
-   tallies and without.
-
-   The board: 512 rows burnt by a job, key 1 burnt and valid, one page behind it, and the key entered. The full chip: every row below
-   0xf40 burnt, all six keys whole with a bit of each row worn away, every page locked and registered. */
+   and is read entry by entry. A repair pass goes over the rows of a page of the worn chip, and over all that a list can have. The last two are
+   no calls: how a screen comes by the bits burnt in a page of the board, with the tallies and without. The chips are those of chips.h. */
+#include "chips.h"
 #include "counted.h"
 #include "otp.h"
 
 #include <stdio.h>
 #include <string.h>
 
-enum {
-    ENTRIES = 512,
-    HEAD = 7,
-    JOB = HEAD + 6 * ENTRIES,
-    HUNDRED = 100,
-    HALF_THE_PULSES = 2700,
-    KEYED_PAGE = 20,
-    KEYED_ROW = 1281,
-    FIRST_KEPT_ROW = 0xf40,
-    FIRST_KEY_ROW = 0xf48,
-    FIRST_VALID_ROW = 0xf79,
-    FIRST_LOCK_ROW = 0xf80,
-    STACK = 16384,
-};
+enum { HUNDRED = 100, HALF_THE_PULSES = 2700, KEYED_ROW = 1281, STACK = 16384 };
 
-static const uint32_t blank[OTP_ROWS];
-static uint32_t board[OTP_ROWS], full[OTP_ROWS], further[OTP_ROWS], rows[OTP_ROWS];
-static uint8_t job[JOB], area[OTP_AREA_BYTES], out[OTP_JOB_BYTES], key[OTP_KEY_BYTES];
-static otp_state board_state, state;
+static uint8_t area[OTP_AREA_BYTES], out[OTP_JOB_BYTES];
+static uint32_t report[FIRST_KEPT_ROW];
 static otp_note note;
-static otp_answer answer;
 
-/* Keeps what an outcome holds, as a firmware would. */
-#define KEEP(call)                \
-    do {                          \
-        otp_outcome made = call;  \
-        answer = made.answer;     \
-        state = made.state;       \
-    } while (0)
-
-static void reset(void) { KEEP(otp_reset(rows, OTP_ROWS, state)); }
 static void read_raw(void) { answer = otp_read_raw(rows, OTP_ROWS, state, OTP_SECURE, 7); }
 static void read_as_bootloader(void) { answer = otp_read_raw(rows, OTP_ROWS, state, OTP_BOOTLOADER, 7); }
 static void read_ecc(void) { answer = otp_read_ecc(rows, OTP_ROWS, state, OTP_SECURE, 7); }
@@ -55,8 +28,6 @@ static void write_raw(void) { KEEP(otp_write_raw(rows, OTP_ROWS, state, OTP_SECU
 static void write_ecc(void) { KEEP(otp_write_ecc(rows, OTP_ROWS, state, OTP_SECURE, 8, 0x5053)); }
 static void advance(void) { KEEP(otp_advance(state, OTP_SECURE, OTP_SECURE, 9, OTP_READ_ONLY)); }
 static void show(void) { answer = otp_show(state, OTP_SECURE, OTP_SECURE, 9); }
-static void enter_key(void) { KEEP(otp_enter_key(state, OTP_SECURE, key, OTP_KEY_BYTES)); }
-static void run_job(void) { KEEP(otp_run_job(rows, OTP_ROWS, state, job, JOB)); }
 static void rehearse(void) { KEEP(otp_rehearse(rows, OTP_ROWS, state, job, JOB, HALF_THE_PULSES)); }
 
 /* Takes the bytes of the job that come next, as one chunk. */
@@ -95,6 +66,12 @@ static void read_job(void)
         entry = otp_next_entry(job, JOB, entry.at);
     answer.number = entry.number;
 }
+
+/* Repairs so many rows, from one on. */
+static void repair(uint32_t first, uint32_t count) { KEEP(otp_repair(rows, OTP_ROWS, state, list + first, count, report, FIRST_KEPT_ROW)); }
+
+static void repair_page(void) { repair(OTP_PAGE_ROWS * KEYED_PAGE, OTP_PAGE_ROWS); }
+static void repair_all(void) { repair(0, FIRST_KEPT_ROW); }
 
 /* A screen's question, how many bits of a page are burnt: looked up, and as it would be counted without tallies. */
 static void burnt(uint32_t bits)
@@ -144,80 +121,11 @@ static const struct {
     {"make a job of none", make_none, full, 0},
     {"read an entry", read_entry, board, 0},
     {"read a job of 512", read_job, board, 0},
+    {"repair 64 rows", repair_page, worn, 0},
+    {"repair 3,904 rows", repair_all, worn, 0},
     {"bits burnt, looked up", look_up, board, 0},
     {"bits burnt, counted", count, board, 0},
 };
-
-/* Every seventh row, ECC, with values that spread over the 16 bits. */
-static void write_job(void)
-{
-    memcpy(job, "\x4f\x54\x4a\x01\x00\x00\x02", HEAD);
-    for (uint32_t i = 0; i < ENTRIES; i++) {
-        uint32_t row = 7 * i, value = 129 * i;
-        uint8_t entry[6] = {(uint8_t)row, (uint8_t)(row >> 8), 0, (uint8_t)value, (uint8_t)(value >> 8), 0};
-        memcpy(job + HEAD + 6 * i, entry, sizeof entry);
-    }
-}
-
-/* Burns key k, counted from 0, and its valid flag; the words go up from 0x1234. */
-static void burn_key(uint32_t k)
-{
-    for (uint32_t i = 0; i < 8; i++)
-        KEEP(otp_write_ecc(rows, OTP_ROWS, state, OTP_SECURE, FIRST_KEY_ROW + 8 * k + i, 0x1234 + i));
-    KEEP(otp_write_raw(rows, OTP_ROWS, state, OTP_SECURE, FIRST_VALID_ROW + k, 0x010101));
-}
-
-static void make_board(void)
-{
-    write_job();
-    run_job();
-    burn_key(0);
-    KEEP(otp_write_raw(rows, OTP_ROWS, state, OTP_SECURE, FIRST_LOCK_ROW + 2 * KEYED_PAGE, 0x010101));
-    for (uint32_t i = 0; i < 8; i++) {
-        key[2 * i] = (uint8_t)(0x34 + i);
-        key[2 * i + 1] = 0x12;
-    }
-    memcpy(board, rows, sizeof rows);
-    reset();
-    enter_key();
-    board_state = state;
-}
-
-static void burn_every_row(void)
-{
-    for (uint32_t row = 0; row < FIRST_KEPT_ROW; row++)
-        KEEP(otp_write_ecc(rows, OTP_ROWS, state, OTP_SECURE, row, row * 15));
-}
-
-/* Each key, with the lowest set bit of each of its rows worn away. */
-static void burn_worn_keys(void)
-{
-    for (uint32_t k = 0; k < 6; k++)
-        burn_key(k);
-    for (uint32_t row = FIRST_KEY_ROW; row < FIRST_KEY_ROW + 48; row++)
-        rows[row] &= rows[row] - 1;
-}
-
-/* Each page: write key 1, read key 2 and no access without, and read only for every caller. */
-static void burn_locks(void)
-{
-    for (uint32_t row = FIRST_LOCK_ROW; row < OTP_ROWS; row++)
-        KEEP(otp_write_raw(rows, OTP_ROWS, state, OTP_SECURE, row, row % 2 == 0 ? 0x515151 : 0x151515));
-}
-
-static void make_full(void)
-{
-    otp_state start = OTP_START;
-    memset(rows, 0, sizeof rows);
-    state = start;
-    burn_every_row();
-    burn_worn_keys();
-    burn_locks();
-    memcpy(full, rows, sizeof rows);
-    memcpy(further, rows, sizeof rows);
-    for (uint32_t i = 0; i < ENTRIES; i++)
-        further[7 * i] |= further[7 * i] + 1;
-}
 
 static void prepare(const uint32_t *chip, uint32_t taken)
 {

@@ -1,6 +1,6 @@
 /* What desk/calls.c counts: how often each call gave each number, how often each caller was done and was refused with 7, how often an ECC
-   read said each condition, a chunk each early word and the reader the end, and how often a call that burns raised a page's tally, held one to a full page, or
-   brought one down. One that can be given and never was is an error, and so is a number or a word that the call cannot give. */
+   read said each condition, a chunk each early word, the reader the end and a repair pass each kind of row, and how often a call that burns raised a page's
+   tally, held one to a full page, or brought one down. One that can be given and never was is an error, and so is a number or a word that the call cannot give. */
 #ifndef TALLY_H
 #define TALLY_H
 
@@ -9,7 +9,7 @@
 #include <stdio.h>
 #include <string.h>
 
-enum { RESET, READ_RAW, READ_ECC, READ_VOTE, WRITE_RAW, WRITE_ECC, ADVANCE, SHOW, ENTER_KEY, RUN_JOB, REHEARSE, TAKE_CHUNK, END_JOB, MAKE_JOB, NEXT_ENTRY, KINDS };
+enum { RESET, READ_RAW, READ_ECC, READ_VOTE, WRITE_RAW, WRITE_ECC, ADVANCE, SHOW, ENTER_KEY, RUN_JOB, REHEARSE, TAKE_CHUNK, END_JOB, MAKE_JOB, NEXT_ENTRY, REPAIR, KINDS };
 enum { NUMBERS = 15 };
 
 /* Secure, Non-secure and the bootloader. A call that takes no caller is made by none of them. */
@@ -35,6 +35,7 @@ static const struct {
     {"end job", "01cab739", {"", "", ""}},
     {"make job", "013dbec", {"", "", ""}},
     {"next entry", "0a", {"", "", ""}},
+    {"repair", "01bc3", {"", "", ""}},
 };
 
 /* What a done ECC read can say of its row. A row with a worn flag is never inverted. */
@@ -78,6 +79,15 @@ static void tally_entry(const otp_entry *entry)
     ended += entry->end;
 }
 
+/* How often a repair pass told each kind of a listed row. */
+static uint32_t found[OTP_ROW_NOT_PERMITTED + 1];
+
+static void tally_report(const uint32_t *report, uint32_t listed)
+{
+    for (uint32_t i = 0; i < listed; i++)
+        found[report[i] % 256 % (OTP_ROW_NOT_PERMITTED + 1)]++;
+}
+
 static void tally(uint32_t kind, uint32_t caller, const otp_answer *answer)
 {
     gave[kind][answer->number % NUMBERS]++;
@@ -97,7 +107,7 @@ static uint32_t changed[KINDS][CHANGES];
 
 static bool burns(uint32_t kind)
 {
-    return kind == WRITE_RAW || kind == WRITE_ECC || kind == RUN_JOB || kind == REHEARSE || kind == END_JOB;
+    return kind == WRITE_RAW || kind == WRITE_ECC || kind == RUN_JOB || kind == REHEARSE || kind == END_JOB || kind == REPAIR;
 }
 
 /* Counts what a call did. Where no tally came down and all together went up by less than the pulses, some page was held. */
@@ -186,6 +196,19 @@ static bool told_entries(void)
     return handed != 0 && ended != 0 && handed + ended == gave[NEXT_ENTRY][OTP_DONE];
 }
 
+/* How often a repair pass told each kind of a row, and whether it did. */
+static bool told_rows(void)
+{
+    bool all = true;
+    printf("rows told ");
+    for (uint32_t kind = OTP_ROW_CLEAN; kind <= OTP_ROW_NOT_PERMITTED; kind++) {
+        printf("   %u: %6u", (unsigned)kind, (unsigned)found[kind]);
+        all = all && found[kind] != 0;
+    }
+    printf("\n");
+    return all;
+}
+
 static bool all_told(void)
 {
     bool all = true;
@@ -197,10 +220,11 @@ static bool all_told(void)
         all = told_condition(i) && all;
     all = told_words() && all;
     all = told_entries() && all;
+    all = told_rows() && all;
     for (uint32_t kind = 0; kind < KINDS; kind++)
         all = (!burns(kind) || told_changes(kind)) && all;
     if (!all)
-        printf("a call never gave a number, a condition or a word that it can give, never changed a tally as it can, or gave what it cannot\n");
+        printf("a call never gave a number, a condition, a word or a kind of row that it can give, never changed a tally as it can, or gave what it cannot\n");
     return all;
 }
 
