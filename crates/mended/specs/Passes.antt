@@ -21,10 +21,11 @@ use Rattle.repair.specs.declared.finding.Found.{Found}
 use Rattle.repair.specs.declared.finding.Found.the-variants.{Mended}
 use Rattle.mended.specs.Rows.{OneBitMore}
 
--- the listed row at a place, and what is found of it
+-- the listed row at a place
 abbrev pub listedRow : List ℕ → ℕ → ℕ
 listedRow list i = getD list i 0
 
+-- and what is found of it
 abbrev pub findingAt : List ℕ → State → List ℕ → ℕ → Found
 findingAt rows state list i = foundOf (mayWrite state 0 (listedRow list i)) (rowAt rows (listedRow list i))
 

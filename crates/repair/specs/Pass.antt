@@ -22,7 +22,7 @@ outOfOrder least (row ∷ others) = leb 0xf40 row || ltb row least || outOfOrder
 -- a listed row that Secure may write, and that holds more than 16,777,215
 unfoldable pub someTooLarge : List ℕ → State → List ℕ → Bool
 someTooLarge rows state [] = false
-someTooLarge rows state (row ∷ others) = mayWrite state 0 row && tooLarge rows row || someTooLarge rows state others
+someTooLarge rows state (row ∷ others) = (mayWrite state 0 row && tooLarge rows row) || someTooLarge rows state others
 
 -- 1, then 11 for the list, 12 for a report shorter than the list, then 3
 abbrev pub repairNumber : List ℕ → State → List ℕ → List ℕ → ℕ
@@ -44,6 +44,7 @@ pub record Look : Type 0 where
 abbrev pub lookAt : List ℕ → State → ℕ → Look
 lookAt rows state row = record { row = row; held = rowAt rows row; found = foundOf (mayWrite state 0 row) (rowAt rows row) }
 
+-- all of them, in order
 unfoldable pub looks : List ℕ → State → List ℕ → List Look
 looks rows state [] = []
 looks rows state (row ∷ others) = lookAt rows state row ∷ looks rows state others
@@ -73,12 +74,15 @@ pub record Passed : Type 0 where
   pub left : Left
   pub report : List ℕ
 
--- repair the listed rows
+-- done, by what was found of each row: what was lost is burnt, counted and reported
+abbrev pub mended : List ℕ → State → List Look → List ℕ → Passed
+mended rows state found report = record {
+  left = burnt state (mendingGains found) (mendedRows rows found) 0 (mendingPulses found);
+  report = reportFrom report 0 found;
+}
+
+-- repair the listed rows; a refusal leaves the report as it was too
 unfoldable pub repair : List ℕ → State → List ℕ → List ℕ → Passed
 repair rows state list report =
-    if eqb (repairNumber rows state list report) 0
-    then record {
-      left = burnt state (mendingGains (looks rows state list)) (mendedRows rows (looks rows state list)) 0 (mendingPulses (looks rows state list));
-      report = reportFrom report 0 (looks rows state list);
-    }
+    if eqb (repairNumber rows state list report) 0 then mended rows state (looks rows state list) report
     else record { left = kept state rows (repairNumber rows state list report) 0; report = report }
