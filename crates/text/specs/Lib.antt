@@ -1,3 +1,4 @@
 pub mod Jobs
 pub mod Lines
+pub mod Lists
 pub mod Versions

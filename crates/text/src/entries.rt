@@ -48,7 +48,7 @@ pub fn has(line: &[u8], n: u32) -> bool
 }
 
 // The number that a word spells.
-fn number(line: &[u8], n: u32) -> Number
+pub(crate) fn number(line: &[u8], n: u32) -> Number
     ensures { λ r. ⌜ r ≡ spec.numberAt (now (line .entry)) n ⌝ }
 {
     let span = word(line, n);

@@ -25,9 +25,9 @@ pub struct Reading {
 }
 
 // More lines than a text of 65,536 bytes has.
-const LINES: u32 = 65537;
+pub(crate) const LINES: u32 = 65537;
 
-fn begun() -> Reading
+pub(crate) fn begun() -> Reading
     ensures { λ r. ⌜ r ≡ spec.begun ⌝ }
 {
     Reading {
@@ -44,7 +44,13 @@ fn begun() -> Reading
 }
 
 // The line is read: whether no line has said anything yet, the version, and how many entries there are now.
-fn passed(text: &[u8], reading: Reading, first: bool, version: u32, count: u32) -> Reading
+pub(crate) fn passed(
+    text: &[u8],
+    reading: Reading,
+    first: bool,
+    version: u32,
+    count: u32,
+) -> Reading
     requires { ⌜ reading .line < 65537 ⌝ }
     ensures { λ r. ⌜ r ≡ spec.passed (now (text .entry)) reading first version count ⌝ }
 {
@@ -63,7 +69,7 @@ fn passed(text: &[u8], reading: Reading, first: bool, version: u32, count: u32) 
 }
 
 // The line is wrong.
-fn stopped(reading: Reading, word: u32, why: Why) -> Reading
+pub(crate) fn stopped(reading: Reading, word: u32, why: Why) -> Reading
     requires { ⌜ reading .line < 65537 ⌝ }
     ensures { λ r. ⌜ r ≡ spec.stopped reading word why ⌝ }
 {
@@ -102,7 +108,7 @@ fn step(text: &[u8], job: &mut [u8], reading: Reading) -> Reading
 }
 
 // Whether there is more to read.
-fn goes_on(text: &[u8], most: u32, reading: Reading) -> bool
+pub(crate) fn goes_on(text: &[u8], most: u32, reading: Reading) -> bool
     ensures { λ r. ⌜ r ≡ spec.goesOn (now (text .entry)) most reading ⌝ }
 {
     if !reading.going {
