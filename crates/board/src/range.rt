@@ -88,3 +88,17 @@ pub fn named(words: Words) -> Rows
         }
     }
 }
+
+// The same, where one row alone is not asked for: both words or none.
+pub fn from_first_to_last(words: Words) -> Rows
+    ensures { λ r. ⌜ spec.Named r ⌝ }
+{
+    if words.third == 0 {
+        usage::wrong(
+            words.second,
+            b"FIRST and LAST go together, and LAST is missing",
+        );
+        return Rows::Ended;
+    }
+    named(words)
+}

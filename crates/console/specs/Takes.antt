@@ -17,6 +17,7 @@ words one two fewest greatest = record {
   save = false;
   replace = false;
   ways = false;
+  rows = false;
 }
 
 -- an image, so many words with it, and a key to enter
@@ -31,6 +32,7 @@ onImage two fewest greatest = record {
   save = false;
   replace = false;
   ways = false;
+  rows = false;
 }
 
 -- besides, what a third word is
@@ -45,6 +47,7 @@ withThird takes three = record {
   save = takes .save;
   replace = takes .replace;
   ways = takes .ways;
+  rows = takes .rows;
 }
 
 -- besides, what a read is asked with
@@ -59,6 +62,22 @@ withWays takes = record {
   save = takes .save;
   replace = takes .replace;
   ways = true;
+  rows = takes .rows;
+}
+
+-- besides, a text with a list of rows
+abbrev pub withRows : Takes → Takes
+withRows takes = record {
+  first = takes .first;
+  second = takes .second;
+  third = takes .third;
+  least = takes .least;
+  most = takes .most;
+  key = takes .key;
+  save = takes .save;
+  replace = takes .replace;
+  ways = takes .ways;
+  rows = true;
 }
 
 -- besides, leave to write over a file
@@ -73,6 +92,7 @@ withReplace takes = record {
   save = takes .save;
   replace = true;
   ways = takes .ways;
+  rows = takes .rows;
 }
 
 -- besides, a name to save under, and leave to write over a file
@@ -87,4 +107,5 @@ withSave takes = record {
   save = true;
   replace = true;
   ways = takes .ways;
+  rows = takes .rows;
 }

@@ -7,5 +7,6 @@ pub mod options;
 pub mod saving;
 mod shown;
 pub mod takes;
+pub mod text_errors;
 pub mod usage;
 pub mod word;

@@ -30,6 +30,9 @@ pub(crate) fn lines(words: Words, takes: Takes) {
     role_line(first, words.first);
     role_line(second, words.second);
     role_line(third, words.third);
+    if words.rows != 0 {
+        role_line(Role::Text, words.rows);
+    }
     if words.save != 0 {
         line(b"writes ", words.save, b"");
     }

@@ -10,6 +10,7 @@ pub struct Words {
     pub third: usize,
     pub key: usize,
     pub save: usize,
+    pub rows: usize,
     pub replace: usize,
     pub vote: usize,
     pub raw: usize,
@@ -33,6 +34,8 @@ const SAVE: u32 = 2;
 const VOTE: u32 = 3;
 
 const CALLER: u32 = 4;
+
+const ROWS: u32 = 5;
 
 // A word that follows no option.
 fn with_plain(mut words: Words, place: usize) -> Words {
@@ -80,6 +83,10 @@ fn with_value(mut words: Words, place: usize) -> Words {
         words.vote = place;
         return words;
     }
+    if awaited == ROWS {
+        words.rows = place;
+        return words;
+    }
     words.caller = place;
     words
 }
@@ -106,6 +113,9 @@ fn with_option(words: Words, place: usize) -> Words {
     }
     if is(place, b"--as") {
         return awaiting(words, CALLER, words.caller, place);
+    }
+    if is(place, b"--rows") {
+        return awaiting(words, ROWS, words.rows, place);
     }
     with_flag(words, place)
 }
@@ -161,6 +171,7 @@ pub(crate) fn taken() -> Words {
         third: 0,
         key: 0,
         save: 0,
+        rows: 0,
         replace: 0,
         vote: 0,
         raw: 0,

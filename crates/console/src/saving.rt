@@ -1,7 +1,10 @@
 // Saving an image or a job: whole under its name, or not at all. It is written under a temporary name beside its own, and renamed at the end.
 ghost use Rattle.console.specs.Files as spec;
 use crate::file_errors::unwritten;
+use crate::options::Words;
+use crate::word;
 use image::rows::bytes_of;
+use screen::print;
 
 // The error of the call that has just failed, which is never 0: a write that takes nothing sets none.
 fn failure() -> i32 {
@@ -108,4 +111,23 @@ pub fn save(place: usize, rows: &[u32; 4096]) -> bool
 {
     let bytes = bytes_of(rows);
     save_bytes(place, &bytes)
+}
+
+// Saves the image of rows, where that is asked for. False where it could not.
+pub fn save_asked(words: Words, rows: &[u32; 4096]) -> bool
+    ensures { λ r. ⌜ spec.Told r ⌝ }
+{
+    if words.save == 0 {
+        return true;
+    }
+    save(words.save, rows)
+}
+
+// "saved as cut.img", where that was asked for.
+pub fn saved_line(words: Words) {
+    if words.save != 0 {
+        print::text(b"saved as ");
+        word::print(words.save);
+        print::end();
+    }
 }

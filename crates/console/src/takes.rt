@@ -11,8 +11,8 @@ pub enum Role {
     Other,
 }
 
-// `save` is an option that names a file to write, `replace` one that lets it write over another, `ways` those of `read`. Where a command takes
-// one word, `second` is what standard input is to it.
+// `save` is an option that names a file to write, `replace` one that lets it write over another, `ways` those of `read`, `rows` one that names
+// a text with a list of rows. Where a command takes one word, `second` is what standard input is to it.
 pub struct Takes {
     pub first: Role,
     pub second: Role,
@@ -23,6 +23,7 @@ pub struct Takes {
     pub save: bool,
     pub replace: bool,
     pub ways: bool,
+    pub rows: bool,
 }
 
 impl Takes {
@@ -40,6 +41,7 @@ impl Takes {
             save: false,
             replace: false,
             ways: false,
+            rows: false,
         }
     }
 
@@ -57,6 +59,7 @@ impl Takes {
             save: false,
             replace: false,
             ways: false,
+            rows: false,
         }
     }
 
@@ -76,6 +79,7 @@ impl Takes {
             save: self.save,
             replace: self.replace,
             ways: self.ways,
+            rows: self.rows,
         }
     }
 
@@ -84,6 +88,14 @@ impl Takes {
         ensures { λ r. ⌜ r ≡ spec.withWays self ⌝ }
     {
         self.ways = true;
+        self
+    }
+
+    // Besides, a text with a list of rows.
+    pub fn with_rows(mut self) -> Takes
+        ensures { λ r. ⌜ r ≡ spec.withRows self ⌝ }
+    {
+        self.rows = true;
         self
     }
 

@@ -78,6 +78,9 @@ fn stray(words: Words, takes: Takes) -> usize {
     if words.replace != 0 && !takes.replace {
         return words.replace;
     }
+    if words.rows != 0 && !takes.rows {
+        return before(words.rows);
+    }
     if takes.ways {
         return 0;
     }

@@ -1,41 +1,16 @@
 // One line on a text that gives no job: the line's number, its word, and what is wrong with it. With it the command has ended.
 use console::ended;
-use console::file_errors::said;
-use libc::STDOUT_FILENO;
+use console::text_errors::at;
+use console::text_errors::no_number;
 use screen::print;
 use text::entries::Why;
 use text::jobs::Reading;
-use typed::words::line_at;
-use typed::words::part;
-use typed::words::word;
-
-// No word that fits has a byte that is not to be seen, so each such byte is made visible.
-fn byte(code: u8) {
-    if 32 < code && code < 127 {
-        let own = [code];
-        print::text(&own);
-        return;
-    }
-    print::text(b"\\x");
-    io::print_hex(STDOUT_FILENO, code as u64, 2);
-}
-
-// A word, or the beginning of one that is longer than any number has to be.
-fn print_word(own: &[u8]) {
-    for i in 0..own.len() {
-        if i == 10 {
-            print::text(b"...");
-            return;
-        }
-        byte(own[i]);
-    }
-}
 
 fn of_form(why: Why) {
     match why {
         Why::Missing => print::line(b"a line has a row, a kind and a value"),
         Why::Extra => print::line(b"a line has a row, a kind and a value; a comment begins with #"),
-        Why::Number => print::line(b"no number of 32 bits, in decimal or after 0x"),
+        Why::Number => no_number(),
         Why::Kind => print::line(b"a kind is ecc or raw"),
         Why::Version => print::line(b"a version line is 'version 1' or 'version 2'"),
         Why::NotFirst => print::line(b"a version line stands once, before all entries"),
@@ -60,13 +35,7 @@ fn reason(why: Why) {
 
 // "otp: 'card.txt': line 3: '0x0c0': it is not above the row before it"
 pub fn line(place: usize, text: &[u8], reading: Reading, n: u32, why: Why) {
-    said(place, b"line ");
-    print::number(reading.line);
-    print::text(b": '");
-    let line = line_at(text, reading.start);
-    let span = word(line, n);
-    print_word(part(line, span.from, span.to));
-    print::text(b"': ");
+    at(place, text, reading.line, reading.start, n);
     reason(why);
     ended::file();
 }

@@ -10,7 +10,6 @@ use chip::pages::Page;
 use console::options::Words;
 use console::takes::Role;
 use console::takes::Takes;
-use console::usage;
 use console::usage::Given;
 use console::usage::asked;
 
@@ -31,14 +30,7 @@ fn of_words(words: Words) {
         of_range(words, range::held_before(Page::FIRST_KEPT_ROW));
         return;
     }
-    if words.third == 0 {
-        usage::wrong(
-            words.second,
-            b"FIRST and LAST go together, and LAST is missing",
-        );
-        return;
-    }
-    if let Rows::Range(range) = range::named(words) {
+    if let Rows::Range(range) = range::from_first_to_last(words) {
         of_range(words, range);
     }
 }

@@ -8,8 +8,8 @@ use chip::callers::SECURE;
 use chip::state::Outcome;
 use chip::state::State;
 use console::options::Words;
-use console::saving::save;
-use console::word;
+use console::saving::save_asked;
+use console::saving::saved_line;
 use form::entries::count_of;
 use form::entries::entry_at;
 use screen::print;
@@ -70,22 +70,6 @@ fn changed(before: &[u32; 4096], after: &[u32; 4096], job: &[u8], answer: Answer
     locks::show(before, after, job, answer);
 }
 
-// Saves the image as the job leaves it, where that is asked for.
-fn saved(words: Words, after: &[u32; 4096]) -> bool {
-    if words.save == 0 {
-        return true;
-    }
-    save(words.save, after)
-}
-
-fn saved_line(words: Words) {
-    if words.save != 0 {
-        print::text(b"saved as ");
-        word::print(words.save);
-        print::end();
-    }
-}
-
 fn gains(before: State, after: State) {
     let old = before.tallies;
     let new = after.tallies;
@@ -114,7 +98,7 @@ pub fn show(
         refused(words, before, state, job, answer);
         return;
     }
-    if !saved(words, after) {
+    if !save_asked(words, after) {
         return;
     }
     changed(before, after, job, answer);

@@ -1,10 +1,10 @@
--- `doing::text_errors::print_word` is safe and ends: each turn writes one byte. Assumes nothing.
+-- `console::text_errors::print_word` is safe and ends: each turn writes one byte. Assumes nothing.
 use Prim.Native.Nat.{_-_}
 use borrow.Author.Needs.{needs}
 use lib.ListN.{length}
 use mathlib.Core.Path.{_≡_}
-use Rattle.doing.proofs.text_errors.print_word.Statement.{statement}
-use Rattle.doing.proofs.text_errors.print_word.Tie as tie
+use Rattle.console.proofs.text_errors.print_word.Statement.{statement}
+use Rattle.console.proofs.text_errors.print_word.Tie as tie
 
 abbrev Inv-loop : tie.InvT-loop
 Inv-loop own i₀ t3 i-end i = i-end ≡ length own
