@@ -1,5 +1,5 @@
 // The bench crew's command: rehearse a job on an image of a chip or receive one, read a row, show the pages, dump or compare images, list worn
-// rows, list or write a job, make one of two images, show the code of a value.
+// rows or repair them, list or write a job, make one of two images, show the code of a value.
 // The script ./otp at the root runs it, and turns the last line that it writes into an exit status.
 use console::ended;
 use console::usage;
@@ -13,6 +13,7 @@ use looking::dump;
 use looking::list;
 use looking::wear;
 use making::make;
+use mending::mend;
 use reading::pages;
 use reading::read;
 use receiving::receive;
@@ -81,6 +82,10 @@ fn main() {
     }
     if word::is(command, b"make") {
         make::run();
+        return;
+    }
+    if word::is(command, b"repair") {
+        mend::run();
         return;
     }
     if asks_for_help(command) {

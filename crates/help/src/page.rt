@@ -78,6 +78,31 @@ fn on_rows_of_an_image() {
     print::line(b"    worn and repaired has two wrong bits, and its value is not certain.");
 }
 
+fn on_repairs() {
+    print::line(
+        b"./otp repair IMAGE (FIRST LAST | --rows TEXT) [--key HEX32] [--save OUT [--replace]]",
+    );
+    print::line(
+        b"    Burns the missing bit of each worn row that can be mended, into a copy of the image. Of each row",
+    );
+    print::line(
+        b"    that is not clean it says whether it is mended, worn but not mendable (a 1 too many, or the flag",
+    );
+    print::line(
+        b"    bits, 23 and 22, disagree), damaged, or not permitted to Secure. It takes all rows from FIRST to",
+    );
+    print::line(
+        b"    LAST, or those that a text lists, one to a line, rising; comments are as in write. They must be",
+    );
+    print::line(
+        b"    ECC rows, below 0xf40: a raw row can look as if it had lost a bit. --save writes the image as",
+    );
+    print::line(
+        b"    the repair leaves it, never over the image or the text, and over another file only with",
+    );
+    print::line(b"    --replace.");
+}
+
 fn on_other_files() {
     print::line(b"./otp compare A.img B.img");
     print::line(
@@ -120,6 +145,7 @@ pub fn show() {
     on_jobs();
     on_an_image();
     on_rows_of_an_image();
+    on_repairs();
     on_other_files();
     print::line(b"");
     print::line(

@@ -53,6 +53,15 @@ pub fn number_and_words(number: u32) {
     words(number);
 }
 
+// The same of a list of rows: "11: listed row out of place". The table has 11 in the words of a job, and a list is none (request 2026-11).
+pub fn number_and_list_words(number: u32) {
+    if number == 11 {
+        print::text(b"11: listed row out of place");
+        return;
+    }
+    number_and_words(number);
+}
+
 // "4: a number that this call does not take: vote count neither 3 nor 8"
 pub fn because(number: u32, reason: &[u8]) {
     number_and_words(number);
