@@ -17,7 +17,8 @@ typedef struct {
     uint8_t key[KEY];
     uint8_t area[OTP_AREA_BYTES];
     otp_note note, noted;
-    uint32_t caller, row, count, value, domain, page, level, limit, listed;
+    uint32_t caller, row, count, value, domain, page, level, limit;
+    uint64_t listed;
     otp_state state;
     otp_answer answer;
 } work;

@@ -1,6 +1,7 @@
 // Judging a job whole, before the first pulse (document 01, "Jobs").
 ghost use mathlib.Core.Path.{_≡_};
 ghost use Rattle.answer.specs.Rungs.{firstOf};
+ghost use Rattle.permit.specs.Permission.{mayWrite};
 ghost use Rattle.form.specs.Entries.{entriesFrom};
 ghost use Rattle.judge.specs.Verdicts as spec;
 use chip::pages::Page;
@@ -13,8 +14,7 @@ use form::entries::entry_at;
 use form::faults::fault_number;
 use form::faults::fault_of;
 use permit::permission::may_write;
-use permit::permits::Permit;
-use permit::permits::permit_for;
+use permit::permission::share_permission;
 use row::writing::Written;
 use row::writing::write_ecc;
 use row::writing::write_raw;
@@ -34,6 +34,28 @@ pub fn entry_written(old: u32, entry: Entry) -> Written
         return write_ecc(old, (value % 65536) as u16);
     }
     write_raw(old, value)
+}
+
+// A row, and whether Secure may write it.
+struct Permit {
+    row: u32,
+    may: bool,
+}
+
+// Whether Secure may write a row. To look it up would be most of judging an entry: so that of the row before is kept where the two
+// share permission.
+fn permit_for(row: u32, before: Permit, state: State) -> Permit
+    requires { ⌜ before .may ≡ mayWrite state 0 (before .row) ⌝ }
+    ensures { λ r. ⌜ (r .row ≡ row) × (r .may ≡ mayWrite state 0 row) ⌝ }
+{
+    if share_permission(before.row, row) {
+        return Permit {
+            row,
+            may: before.may,
+        };
+    }
+    let may = may_write(state, 0, row);
+    Permit { row, may }
 }
 
 // The number of an entry whose row may be written, or may not. `row_number` of access judges 7, then 3, too: by one function for both a

@@ -1,17 +1,14 @@
 -- Rows that share permission: who may write one may write the other. Of data rows one page says which do.
 -- Assumes nothing.
 use mathlib.Core.Bool.{Bool, true, false, _&&_, and-eq-true-iff}
-use mathlib.Core.Path.{_≡_, refl, ap, _∙_}
+use mathlib.Core.Path.{_≡_, refl}
 use Prim.Native.Nat.{ℕ, _/_, _<_}
 use native.Mathlib.Omega.{arith}
 use borrow.Author.Tests.{eqb-true, le-ltb, lt-leb}
 use lib.Dec.{eqb}
-use Rattle.answer.specs.Choice.{if_then_else_}
 use Rattle.chip.specs.Pages.{owner, keyPage}
 use Rattle.permit.specs.Permission.{mayWrite, sharePermission}
-use Rattle.permit.specs.Permits.{permitFor}
 use Rattle.chip.specs.declared.state.State.{State}
-use Rattle.permit.specs.declared.permits.Permit.{Permit}
 
 pub share-write : (state : State) (caller a b : ℕ) → sharePermission a b ≡ true → mayWrite state caller a ≡ mayWrite state caller b
 unfolding mayWrite
@@ -20,15 +17,6 @@ share-write state caller a b e =
     let levels : owner a ≡ owner b = eqb-true (owner a) (owner b) (both .0) in
     let keys : keyPage a ≡ keyPage b = eqb-true (keyPage a) (keyPage b) (both .1) in
     simp (levels, keys)
-
--- so a permit that is kept or looked up is right, where that of the row before is
-pub permit-right : (state : State) (row : ℕ) (before permit : Permit) → before .may ≡ mayWrite state 0 (before .row) → permit ≡ permitFor row before state
-    → permit .may ≡ mayWrite state 0 row
-permit-right state row before permit right e = ap (λ (p : Permit). p .may) e ∙ go (sharePermission (before .row) row) refl
-  where
-    go : (t : Bool) → sharePermission (before .row) row ≡ t → (if t then before .may else mayWrite state 0 row) ≡ mayWrite state 0 row
-    go true shared = right ∙ share-write state 0 (before .row) row shared
-    go false other = refl
 
 and-same : (t : Bool) → (t && t) ≡ t
 and-same true = refl

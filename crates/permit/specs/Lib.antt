@@ -1,3 +1,2 @@
 pub mod Keys
 pub mod Permission
-pub mod Permits

@@ -2,3 +2,4 @@
 pub mod finding;
 pub mod list;
 pub mod pass;
+mod permits;

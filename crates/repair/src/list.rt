@@ -1,16 +1,14 @@
 // The list of a repair pass, and what it is refused for (request 2026-11).
 ghost use mathlib.Core.Path.{_≡_};
-ghost use mathlib.Core.Bool.{_&&_};
+ghost use mathlib.Core.Bool.{false, _&&_};
 ghost use Rattle.chip.specs.Slices.{tooLarge};
+ghost use Rattle.chip.specs.declared.state.State.{State};
 ghost use Rattle.repair.specs.Pass as spec;
-use chip::callers::SECURE;
+ghost use Rattle.repair.specs.Permits.{writablePages};
+use crate::permits::writable;
 use chip::pages::Page;
 use chip::slices::MOST_HELD;
 use chip::slices::row_at;
-use chip::state::State;
-use permit::permission::may_write;
-use permit::permits::Permit;
-use permit::permits::permit_for;
 
 // Whether a listed row is from 0xf40 up, or not above the row before it.
 pub fn out_of_order(list: &[u32]) -> bool
@@ -42,17 +40,18 @@ fn too_large(rows: &[u32], may: bool, row: u32) -> bool
     MOST_HELD < row_at(rows, row)
 }
 
-// Whether a listed row that Secure may write is too large.
-pub fn some_too_large(rows: &[u32], state: State, list: &[u32]) -> bool
-    ensures { λ r. ⌜ r ≡ spec.someTooLarge (now (rows .entry)) state (now (list .entry)) ⌝ }
+// Whether a listed row that Secure may write is too large, of a list in order and by the pages of a state.
+pub(crate) fn some_too_large(rows: &[u32], pages: &[bool], list: &[u32]) -> bool
+    requires { ⌜ spec.outOfOrder 0 (now list) ≡ false ⌝ }
+    ensures { λ r. ⌜
+        ((state : State) → now (pages .entry) ≡ writablePages state
+        → r ≡ spec.someTooLarge (now (rows .entry)) state (now (list .entry)))
+        ⌝ }
 {
-    let may = may_write(state, SECURE, 0);
-    let mut permit = Permit { row: 0, may };
     let mut i = 0;
     while i < list.len() {
         let row = list[i];
-        permit = permit_for(row, permit, state);
-        if too_large(rows, permit.may, row) {
+        if too_large(rows, writable(pages, row), row) {
             return true;
         }
         i += 1;

@@ -6,7 +6,9 @@ ghost use lib.ListN.{length, set};
 ghost use Rattle.chip.specs.Slices.{rowAt};
 ghost use Rattle.chip.specs.Tallies.{_gains_, withGain, withGains};
 ghost use Rattle.repair.specs.Finding.{foundOf, leftBy, pulsesBy};
+ghost use Rattle.chip.specs.declared.state.State.{State as Latched};
 ghost use Rattle.repair.specs.Pass as spec;
+ghost use Rattle.repair.specs.Permits.{writablePages};
 use crate::finding::Found;
 use crate::finding::found_of;
 use crate::finding::left_by;
@@ -14,22 +16,23 @@ use crate::finding::pulses_by;
 use crate::finding::report_entry;
 use crate::list::out_of_order;
 use crate::list::some_too_large;
+use crate::permits::writable;
+use crate::permits::writable_pages;
 use answer::answers::refused;
 use answer::answers::spent;
 use burn::burning::beside;
 use burn::burning::burn_row;
-use chip::callers::SECURE;
 use chip::pages::Page;
 use chip::slices::row_at;
 use chip::state::Outcome;
 use chip::state::State;
-use permit::permission::may_write;
-use permit::permits::Permit;
-use permit::permits::permit_for;
 
-// The number of a pass over a list, with a report of so many entries.
-fn repair_number(rows: &[u32], state: State, list: &[u32], report: &[u32]) -> u32
-    ensures { λ r. ⌜ r ≡ spec.repairNumber (now (rows .entry)) state (now (list .entry)) (now (report .entry)) ⌝ }
+// The number of a pass over a list, by the pages of a state and the length of a report.
+fn repair_number(rows: &[u32], pages: &[bool], list: &[u32], report: &[u32]) -> u32
+    ensures { λ r. ⌜
+        ((latched : Latched) → now (pages .entry) ≡ writablePages latched
+        → r ≡ spec.repairNumber (now (rows .entry)) latched (now (list .entry)) (now (report .entry)))
+        ⌝ }
 {
     if rows.len() != Page::CHIP_ROWS {
         return 1;
@@ -40,7 +43,7 @@ fn repair_number(rows: &[u32], state: State, list: &[u32], report: &[u32]) -> u3
     if report.len() < list.len() {
         return 12;
     }
-    if some_too_large(rows, state, list) {
+    if some_too_large(rows, pages, list) {
         return 3;
     }
     0
@@ -62,32 +65,30 @@ fn repair_row(rows: &mut [u32], tallies: &mut [u16], row: u32, may: bool) -> Fou
     found
 }
 
-// Repairs the listed rows in order, and puts the entry of each into the report. The pulses that it took.
+// Repairs the listed rows in order, by the pages of a state, and puts the entry of each into the report. The pulses that it took.
 fn all_repaired(
     rows: &mut [u32],
     tallies: &mut [u16],
-    state: State,
+    pages: &[bool],
     list: &[u32],
     report: &mut [u32],
 ) -> u32
     requires { ⌜ spec.outOfOrder 0 (now list) ≡ false ⌝ }
     requires { ⌜ length (now list) ≤ length (now report) ⌝ }
     ensures { λ r. ⌜
-        (let looks = spec.looks (now (rows .entry)) state (now (list .entry)) in
+        ((latched : Latched) → now (pages .entry) ≡ writablePages latched
+        → (let looks = spec.looks (now (rows .entry)) latched (now (list .entry)) in
         (r ≡ spec.mendingPulses looks)
         × (now (rows .exit) ≡ spec.mendedRows (now (rows .entry)) looks)
         × (now (tallies .exit) ≡ withGains (now (tallies .entry)) (spec.mendingGains looks))
-        × (now (report .exit) ≡ spec.reportFrom (now (report .entry)) 0 looks))
+        × (now (report .exit) ≡ spec.reportFrom (now (report .entry)) 0 looks)))
         ⌝ }
 {
-    let may = may_write(state, SECURE, 0);
-    let mut permit = Permit { row: 0, may };
     let mut pulses: u32 = 0;
     let mut i = 0;
     while i < list.len() {
         let row = list[i];
-        permit = permit_for(row, permit, state);
-        let found = repair_row(rows, tallies, row, permit.may);
+        let found = repair_row(rows, tallies, row, writable(pages, row));
         report[i] = report_entry(found);
         pulses += pulses_by(found);
         i += 1;
@@ -103,13 +104,14 @@ pub fn repair(rows: &mut [u32], state: State, list: &[u32], report: &mut [u32]) 
         × (now (report .exit) ≡ spec.repair (now (rows .entry)) state (now (list .entry)) (now (report .entry)) .report)
         ⌝ }
 {
-    let number = repair_number(rows, state, list, report);
+    let pages = writable_pages(state);
+    let number = repair_number(rows, &pages, list, report);
     if number != 0 {
         let answer = refused(number);
         return Outcome { answer, state };
     }
     let mut tallies = state.tallies;
-    let pulses = all_repaired(rows, &mut tallies, state, list, report);
+    let pulses = all_repaired(rows, &mut tallies, &pages, list, report);
     let answer = spent(0, pulses);
     beside(answer, state, tallies)
 }

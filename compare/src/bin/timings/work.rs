@@ -41,7 +41,7 @@ pub struct Work {
     pub page: u32,
     pub level: u32,
     pub limit: u32,
-    pub listed: u32,
+    pub listed: u64,
     pub state: State,
     pub answer: Answer,
 }
@@ -142,7 +142,7 @@ fn worn_from(work: &mut Work, first: usize, count: usize) {
             _ => plain ^ 3,
         };
     }
-    work.listed = count as u32;
+    work.listed = count as u64;
 }
 
 /// A page of worn rows, all of them listed.

@@ -10,8 +10,6 @@ use mathlib.Core.Bool.{Bool}
 use mathlib.Core.List.{List}
 use Rattle.answer.specs.Rungs.{firstOf}
 use Rattle.permit.specs.Permission.{mayWrite}
-use Rattle.permit.specs.declared.permits.Permit.{Permit}
-use Rattle.permit.proofs.Sharing.{permit-right}
 use Rattle.chip.specs.declared.state.State.{State}
 use Rattle.form.specs.Entries.{entriesFrom}
 use Rattle.form.specs.declared.entries.Entry.{Entry}
@@ -42,6 +40,9 @@ loop-holds c =
       ap (λ (es : List Entry). verdict (allRungs (now (s .rows)) (s .state) 0 es)) (all-left (now (s .job)) (s .count)),
     )
 
+permit-for-requires : tie.Need-permit-for-requires Inv-loop μ-loop
+permit-for-requires c κs = c .before .before .loop .inv .1
+
 -- what was learnt of the entry is what its definition says, whichever it is
 of-entry : (rows : List ℕ) (state : State) (i : ℕ) (e entry : Entry) (may : Bool) (number : ℕ)
     → e ≡ entry → may ≡ mayWrite state 0 (e .row) → number ≡ firstOf (entryRungs rows may 0 e)
@@ -55,8 +56,7 @@ returns : tie.Need-returns Inv-loop μ-loop
 returns c =
     let s = c .before .before .before .before .before .before .before .before .before .args in
     let l = c .before .before .before .before .before .loop in
-    let may = permit-right (s .state) _ (l .permit) _ (l .inv .1) (c .before .before .permit-for .ensures) in
-    let number = of-entry (now (s .rows)) (s .state) (l .i) _ _ _ _ (c .before .before .before .entry-at .ensures) may (c .before .entry-number .ensures) in
+    let number = of-entry (now (s .rows)) (s .state) (l .i) _ _ _ _ (c .before .before .before .entry-at .ensures) (c .before .before .permit-for .ensures .1) (c .before .entry-number .ensures) in
     sym (l .inv .2 ∙ judged-stops (now (s .job)) (s .count) (l .i) (omega arith) (now (s .rows)) (s .state) (λ e. c .if1 .taken (number ∙ e))
     ∙ ap (λ (n : ℕ). at-place n (l .i)) (sym number))
 
@@ -64,11 +64,10 @@ loop-again : tie.Need-loop-again Inv-loop μ-loop
 loop-again c =
     let s = c .before .before .before .before .before .before .before .before .before .args in
     let l = c .before .before .before .before .before .loop in
-    let permit = c .before .before .permit-for .ensures in
-    let may = permit-right (s .state) _ (l .permit) _ (l .inv .1) permit in
-    let number = of-entry (now (s .rows)) (s .state) (l .i) _ _ _ _ (c .before .before .before .entry-at .ensures) may (c .before .entry-number .ensures) in (
+    let permit = c .before .before .permit-for in
+    let number = of-entry (now (s .rows)) (s .state) (l .i) _ _ _ _ (c .before .before .before .entry-at .ensures) (permit .ensures .1) (c .before .entry-number .ensures) in (
       omega arith,
-      may ∙ ap (λ (p : Permit). mayWrite (s .state) 0 (p .row)) (sym permit),
+      permit .ensures .1 ∙ ap (mayWrite (s .state) 0) (sym (permit .ensures .0)),
       l .inv .2
           ∙ judged-next (now (s .job)) (s .count) (l .i) (omega arith) (now (s .rows)) (s .state) (sym number ∙ c .if1 .left),
     )
@@ -89,7 +88,7 @@ judged-spec =
     (λ c κs. search needs)
     loop-holds
     (λ c κs. search needs)
-    (λ c κs. search needs)
+    permit-for-requires
     (λ c κs. search needs)
     returns
     (λ c. omega arith)

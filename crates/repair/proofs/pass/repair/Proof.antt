@@ -20,25 +20,29 @@ parts passed left report e = (ap (λ (p : Passed). p .left .outcome) (sym e), ap
 
 returns : tie.Need-returns
 returns c =
-    let s = c .before .before .before .before .before .before .before .before .args in
-    let left = parts _ _ _ (pass-refused (now (s .rows)) (s .state) (now (s .list)) (now (s .report)) _ (c .before .before .repair-number .ensures) (c .before .if1 .taken)) in
+    let s = c .before .before .before .before .before .before .before .before .before .before .args in
+    let number = c .before .before .repair-number .ensures (s .state) (c .before .before .before .before .before .before .writable-pages .ensures) in
+    let left = parts _ _ _ (pass-refused (now (s .rows)) (s .state) (now (s .list)) (now (s .report)) _ number (c .before .if1 .taken)) in
     (ap (λ (a : Answer). record { answer = a; state = s .state }) (c .refused .ensures) ∙ left .0, left .1, left .2)
 
 all-repaired-requires : tie.Need-all-repaired-requires
 all-repaired-requires c κs =
-    let s = c .before .before .before .before .before .before .before .before .before .before .before .args in
-    let by = let-by (now (s .rows)) (s .state) (now (s .list)) (now (s .report)) (sym (c .before .before .before .before .before .repair-number .ensures) ∙ c .before .before .before .before .if1 .left) in
+    let s = c .before .before .before .before .before .before .before .before .before .before .before .before .before .before .args in
+    let number = c .before .before .before .before .before .before .repair-number .ensures (s .state) (c .before .before .before .before .before .before .before .before .before .before .writable-pages .ensures) in
+    let by = let-by (now (s .rows)) (s .state) (now (s .list)) (now (s .report)) (sym number ∙ c .before .before .before .before .before .if1 .left) in
     (by .1, by .2)
 
 returns-2 : tie.Need-returns-2
 returns-2 c =
-    let s = c .before .before .before .before .before .before .before .before .before .before .before .before .before .before .before .before .before .before .before .args in
-    let left = parts _ _ _ (pass-done (now (s .rows)) (s .state) (now (s .list)) (now (s .report)) (sym (c .before .before .before .before .before .before .before .before .before .before .before .before .before .repair-number .ensures) ∙ c .before .before .before .before .before .before .before .before .before .before .before .before .if1 .left)) in
-    let repaired = c .before .before .before .before .before .before .before .all-repaired .ensures in (
+    let s = c .before .before .before .before .before .before .before .before .before .before .before .before .before .before .before .before .before .before .before .before .before .before .args in
+    let pages = c .before .before .before .before .before .before .before .before .before .before .before .before .before .before .before .before .before .before .writable-pages .ensures in
+    let number = c .before .before .before .before .before .before .before .before .before .before .before .before .before .before .repair-number .ensures (s .state) pages in
+    let left = parts _ _ _ (pass-done (now (s .rows)) (s .state) (now (s .list)) (now (s .report)) (sym number ∙ c .before .before .before .before .before .before .before .before .before .before .before .before .before .if1 .left)) in
+    let repaired = c .before .before .before .before .before .before .before .all-repaired .ensures (s .state) pages in (
       c .beside .ensures ∙ ap₂ (λ (a : Answer) (t : List ℕ). beside a (s .state) t) (c .before .spent .ensures ∙ ap (spent 0) (repaired .0)) (repaired .2) ∙ left .0,
       repaired .1 ∙ left .1,
       repaired .3 ∙ left .2,
     )
 
 pub repair-spec : {M : Type 1} → statement M
-repair-spec = tie.close (tie.spec (λ c κs. search needs) (λ c κs. search needs) (λ c. search needs) (λ c. search needs) returns (λ c. search needs) all-repaired-requires (λ c κs. search needs) (λ c κs. search needs) (λ c. search needs) (λ c. search needs) returns-2)
+repair-spec = tie.close (tie.spec (λ c κs. search needs) (λ c. search needs) (λ c κs. search needs) (λ c κs. search needs) (λ c. search needs) (λ c. search needs) returns (λ c. search needs) (λ c. search needs) all-repaired-requires (λ c κs. search needs) (λ c κs. search needs) (λ c. search needs) (λ c. search needs) returns-2)
