@@ -1,6 +1,6 @@
 -- Down a ladder of refusals: where the number is 0 no test on the way held, and a ladder that goes on answers where its first part does not.
 -- Assumes nothing.
-use mathlib.Core.Bool.{Bool, true, false, not, ◌&&◌, ◌||◌}
+use mathlib.Core.Bool.{Bool, true, false, cond, not, ◌&&◌, ◌||◌}
 use mathlib.Core.List.{List, [], ◌∷◌, ◌++◌}
 use mathlib.Core.Path.{◌≡◌, refl, sym, subst}
 use Prim.Native.Nat.{ℕ, zero, suc}
@@ -24,7 +24,7 @@ passed true n rest e = absurd (never_zero n e)
 passed false n rest e = (refl, e)
 
 pub neither : (a b : Bool) → (a || b) ≡ false → (a ≡ false) × (b ≡ false)
-neither true b e = absurd (subst (λ (t : Bool). if t then Unit {0} else ⊥) e tt)
+neither true b e = absurd (subst (λ (t : Bool). cond t (Unit {0}) ⊥) e tt)
 neither false b e = (refl, e)
 
 -- ---- one ladder after another

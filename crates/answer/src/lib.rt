@@ -1,4 +1,6 @@
 // What every call answers (document 01, "The numbers we answer with"): the answer, and the numbers of its condition and polarity. Its
 // definitions say besides how a call's number is found.
+#![tactic(auto)]
+
 pub mod answers;
 pub mod conditions;
