@@ -1,7 +1,6 @@
 // The bench crew's command: rehearse a job on an image of a chip or receive one, read a row, show the pages, dump or compare images, list worn
-// rows or repair them, list or write a job, make one of two images, show the splash card or make its job, show the code of a value.
+// rows or repair them, list or write a job, make one of two images, show the code of a value.
 // The script ./otp at the root runs it, and turns the last line that it writes into an exit status.
-use carding::card;
 use console::{ended, usage, word};
 use doing::{rehearse, write};
 use help::page;
@@ -79,10 +78,6 @@ fn main() {
     }
     if word::is(command, b"repair") {
         mend::run();
-        return;
-    }
-    if word::is(command, b"card") {
-        card::run();
         return;
     }
     if asks_for_help(command) {

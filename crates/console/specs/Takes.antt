@@ -17,7 +17,6 @@ words one two fewest greatest = record {
   replace = false;
   ways = false;
   rows = false;
-  write = false;
 }
 
 -- an image, so many words with it, and a key to enter
@@ -33,7 +32,6 @@ on_image two fewest greatest = record {
   replace = false;
   ways = false;
   rows = false;
-  write = false;
 }
 
 -- besides, what a third word is
@@ -49,7 +47,6 @@ with_third takes three = record {
   replace = takes.replace;
   ways = takes.ways;
   rows = takes.rows;
-  write = takes.write;
 }
 
 -- besides, what a read is asked with
@@ -65,7 +62,6 @@ with_ways takes = record {
   replace = takes.replace;
   ways = true;
   rows = takes.rows;
-  write = takes.write;
 }
 
 -- besides, a text with a list of rows
@@ -81,7 +77,6 @@ with_rows takes = record {
   replace = takes.replace;
   ways = takes.ways;
   rows = true;
-  write = takes.write;
 }
 
 -- besides, leave to write over a file
@@ -97,7 +92,6 @@ with_replace takes = record {
   replace = true;
   ways = takes.ways;
   rows = takes.rows;
-  write = takes.write;
 }
 
 -- besides, a name to save under, and leave to write over a file
@@ -113,21 +107,4 @@ with_save takes = record {
   replace = true;
   ways = takes.ways;
   rows = takes.rows;
-  write = takes.write;
-}
-
--- besides, a name to write a job under, and leave to write over a file
-abbrev pub with_write : Takes → Takes
-with_write takes = record {
-  first = takes.first;
-  second = takes.second;
-  third = takes.third;
-  least = takes.least;
-  most = takes.most;
-  key = takes.key;
-  save = takes.save;
-  replace = true;
-  ways = takes.ways;
-  rows = takes.rows;
-  write = true;
 }

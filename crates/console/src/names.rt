@@ -34,9 +34,6 @@ pub(crate) fn lines(words: Words, takes: Takes) {
     if words.save != 0 {
         line(b"writes ", words.save, b"");
     }
-    if words.write != 0 {
-        line(b"writes ", words.write, b"");
-    }
     if words.replace != 0 {
         print::line(b"replaces");
     }

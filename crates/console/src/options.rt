@@ -1,8 +1,4 @@
 // Which of the command's words is what, by their places. An option is known here and nowhere else.
-ghost use Rattle.std.specs.Prelude.{[], ◌∷◌, ◌≡◌};
-ghost use Rattle.chip.specs.Lists.{same as same_lists};
-ghost use Rattle.console.specs.Given.{Some};
-
 use crate::word::{command, is, is_option};
 
 // The places of what was given, 0 for what was not. `first` to `third` are the words that follow no option.
@@ -14,7 +10,6 @@ pub struct Words {
     pub key: usize,
     pub save: usize,
     pub rows: usize,
-    pub write: usize,
     pub replace: usize,
     pub vote: usize,
     pub raw: usize,
@@ -40,8 +35,6 @@ const VOTE: u32 = 3;
 const CALLER: u32 = 4;
 
 const ROWS: u32 = 5;
-
-const WRITE: u32 = 6;
 
 // A word that follows no option.
 fn with_plain(mut words: Words, place: usize) -> Words {
@@ -93,10 +86,6 @@ fn with_value(mut words: Words, place: usize) -> Words {
         words.rows = place;
         return words;
     }
-    if awaited == WRITE {
-        words.write = place;
-        return words;
-    }
     words.caller = place;
     words
 }
@@ -126,9 +115,6 @@ fn with_option(words: Words, place: usize) -> Words {
     }
     if is(place, b"--rows") {
         return awaiting(words, ROWS, words.rows, place);
-    }
-    if is(place, b"--write") {
-        return awaiting(words, WRITE, words.write, place);
     }
     with_flag(words, place)
 }
@@ -185,7 +171,6 @@ pub(crate) fn taken() -> Words {
         key: 0,
         save: 0,
         rows: 0,
-        write: 0,
         replace: 0,
         vote: 0,
         raw: 0,
@@ -202,18 +187,4 @@ pub(crate) fn taken() -> Words {
         words = with(words, place);
     }
     words
-}
-
-// Whether a job to write is asked for. A verb that has this option takes other words with it than without: so it asks this first.
-pub fn to_write() -> bool
-    ensures { Some (λ word. result ≡ same_lists word (45 ∷ 45 ∷ 119 ∷ 114 ∷ 105 ∷ 116 ∷ 101 ∷ [])) }
-{
-    let first = command() + 1;
-    let count = os::arg_count();
-    for place in first..count {
-        if is(place, b"--write") {
-            return true;
-        }
-    }
-    false
 }

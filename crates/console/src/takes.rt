@@ -12,8 +12,8 @@ pub enum Role {
     Other,
 }
 
-// `save` is an option that names an image to write, `write` one that names a job, `replace` one that lets it write over another file, `ways` those
-// of `read`, `rows` one that names a text with a list of rows. Where a command takes one word, `second` is what standard input is to it.
+// `save` is an option that names a file to write, `replace` one that lets it write over another, `ways` those of `read`, `rows` one that names
+// a text with a list of rows. Where a command takes one word, `second` is what standard input is to it.
 #[derive(Drop)]
 pub struct Takes {
     pub first: Role,
@@ -26,7 +26,6 @@ pub struct Takes {
     pub replace: bool,
     pub ways: bool,
     pub rows: bool,
-    pub write: bool,
 }
 
 impl Takes {
@@ -45,7 +44,6 @@ impl Takes {
             replace: false,
             ways: false,
             rows: false,
-            write: false,
         }
     }
 
@@ -64,7 +62,6 @@ impl Takes {
             replace: false,
             ways: false,
             rows: false,
-            write: false,
         }
     }
 
@@ -85,7 +82,6 @@ impl Takes {
             replace: self.replace,
             ways: self.ways,
             rows: self.rows,
-            write: self.write,
         }
     }
 
@@ -118,15 +114,6 @@ impl Takes {
         ensures { result ≡ spec.with_save self }
     {
         self.save = true;
-        self.replace = true;
-        self
-    }
-
-    // Besides, a name to write a job under, and leave to write over a file.
-    pub fn with_write(mut self) -> Takes
-        ensures { result ≡ spec.with_write self }
-    {
-        self.write = true;
         self.replace = true;
         self
     }

@@ -77,9 +77,6 @@ fn stray(words: Words, takes: Takes) -> usize {
     if words.rows != 0 && !takes.rows {
         return before(words.rows);
     }
-    if words.write != 0 && !takes.write {
-        return before(words.write);
-    }
     if takes.ways {
         return 0;
     }

@@ -134,27 +134,6 @@ fn on_other_files() {
     print::line(
         b"    it names the first such row. It writes over a job that is there only with --replace.",
     );
-}
-
-fn on_cards() {
-    print::line(b"./otp card IMAGE [--key HEX32]");
-    print::line(
-        b"    The splash card, as Non-secure reads it: each of its rows, from 0x0c0 on, and its version,",
-    );
-    print::line(
-        b"    width, height and bytes in a line; or why there is none, and which row is at fault.",
-    );
-    print::line(b"./otp card --write JOB WIDTH HEIGHT [LINE] [--replace]");
-    print::line(
-        b"    Makes the job that burns a card: with LINE, the bytes in a line, one of version 2, and else of",
-    );
-    print::line(
-        b"    version 1. WIDTH is 1 to 320, HEIGHT 1 to 240, LINE at least WIDTH and at most 1024. It writes",
-    );
-    print::line(b"    over a job that is there only with --replace.");
-}
-
-fn on_the_rest() {
     print::line(b"./otp code VALUE");
     print::line(b"    The code of a value, and the two rows that hold it.");
     print::line(b"./otp help");
@@ -168,8 +147,6 @@ pub fn show() {
     on_rows_of_an_image();
     on_repairs();
     on_other_files();
-    on_cards();
-    on_the_rest();
     print::line(b"");
     print::line(
         b"IMAGE   16,384 bytes: 4,096 rows, row 0 first, each a 32-bit number, low byte first",
@@ -177,9 +154,7 @@ pub fn show() {
     print::line(b"JOB     the bytes of a job, at most 3,079");
     print::line(b"CALLER  secure, non-secure or bootloader");
     print::line(b"HEX32   a key: its 16 bytes as 32 hexadecimal digits, byte 0 first");
-    print::line(
-        b"ROW, FIRST, LAST, VALUE, LIMIT, WIDTH, HEIGHT and LINE are decimal, or hexadecimal after 0x.",
-    );
+    print::line(b"ROW, FIRST, LAST, VALUE and LIMIT are decimal, or hexadecimal after 0x.");
     print::line(b"Everything happens after a reset of the image; the key is entered by Secure.");
     print::line(
         b"The exit status is 0 where the answer is 0, 1 where it is a refusal, 2 for a wrong word or file.",

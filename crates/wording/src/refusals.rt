@@ -2,7 +2,7 @@
 use screen::print;
 
 // The numbers that have words.
-const LAST: u32 = 17;
+const LAST: u32 = 14;
 
 // The words, where the number is the one that they are of.
 fn one(number: u32, own: u32, words: &[u8]) {
@@ -41,9 +41,6 @@ pub fn words(number: u32) {
     one(number, 12, b"the lent area is too short");
     one(number, 13, b"a burnt bit that the wanted row lacks");
     one(number, 14, b"more than 512 rows differ");
-    one(number, 15, b"the card's mark is wrong");
-    one(number, 16, b"the card's version is unknown");
-    one(number, 17, b"a size of the card is out of its range");
     if LAST < number {
         print::text(b"a number that has no words here");
     }
