@@ -3,7 +3,7 @@ ghost use Rattle.std.specs.Prelude.{◌≡◌};
 ghost use Rattle.chip.specs.Pages as spec;
 
 // A page by its number. Number 64 is no page.
-#[derive(Drop)]
+#[derive(Clone, Copy)]
 pub struct Page {
     pub number: u8,
 }

@@ -18,7 +18,7 @@ pub type Tallies = [u16; 64];
 
 // A key as reset latched it: its words, its valid flag, and whether all its rows decoded.
 #[repr(C)]
-#[derive(Drop)]
+#[derive(Clone, Copy)]
 pub struct Key {
     pub words: Words,
     pub valid: bool,
@@ -27,7 +27,7 @@ pub struct Key {
 
 // What the hardware latches at reset, for each page and each key, the key that was entered since, and each page's bits burnt, as they stand.
 #[repr(C)]
-#[derive(Drop)]
+#[derive(Clone, Copy)]
 pub struct State {
     pub secure: Levels,
     pub nonsecure: Levels,
@@ -65,7 +65,7 @@ impl State {
 }
 
 // What a call that can change the state answers.
-#[derive(Drop)]
+#[derive(Clone, Copy)]
 pub struct Outcome {
     pub answer: Answer,
     pub state: State,
