@@ -1,4 +1,4 @@
-// The calls that libotp.a exports. Each is the call of the crate below, and what C takes of its answer.
+// The calls of the face for C, as Rattle code has them: otp_c exports each. Each is the call of the crate below, and what C takes of its answer.
 // Each contract cites the definition of that call, so all that is proved of the call holds here too.
 ghost use Rattle.std.specs.Prelude.{◌≡◌};
 ghost use Rattle.lock.specs.Calls as latch;
@@ -33,46 +33,35 @@ use reader::readers::next_entry;
 use repair::pass::repair;
 
 // Latches what the rows hold.
-#[unsafe(no_mangle)]
-pub extern "C" fn otp_reset(rows: &[u32], state: State) -> FlatOutcome
+pub fn otp_reset(rows: &[u32], state: State) -> FlatOutcome
     ensures { result ≡ flat_outcome (resetting.reset rows.now state) }
 {
     flat_outcome(reset(rows, state))
 }
 
 // Reads a row as it is.
-#[unsafe(no_mangle)]
-pub extern "C" fn otp_read_raw(rows: &[u32], state: State, caller: u32, row: u32) -> FlatAnswer
+pub fn otp_read_raw(rows: &[u32], state: State, caller: u32, row: u32) -> FlatAnswer
     ensures { result ≡ flat_answer (reads.read_raw rows.now state caller row) }
 {
     flat_answer(read_raw(rows, state, caller, row))
 }
 
 // Reads a row with ECC.
-#[unsafe(no_mangle)]
-pub extern "C" fn otp_read_ecc(rows: &[u32], state: State, caller: u32, row: u32) -> FlatAnswer
+pub fn otp_read_ecc(rows: &[u32], state: State, caller: u32, row: u32) -> FlatAnswer
     ensures { result ≡ flat_answer (reads.read_ecc rows.now state caller row) }
 {
     flat_answer(read_ecc(rows, state, caller, row))
 }
 
 // Reads the vote of three or eight rows.
-#[unsafe(no_mangle)]
-pub extern "C" fn otp_read_vote(
-    rows: &[u32],
-    state: State,
-    caller: u32,
-    row: u32,
-    count: u32,
-) -> FlatAnswer
+pub fn otp_read_vote(rows: &[u32], state: State, caller: u32, row: u32, count: u32) -> FlatAnswer
     ensures { result ≡ flat_answer (votes.read_vote rows.now state caller row count) }
 {
     flat_answer(read_vote(rows, state, caller, row, count))
 }
 
 // Burns the bits of a value into a row.
-#[unsafe(no_mangle)]
-pub extern "C" fn otp_write_raw(
+pub fn otp_write_raw(
     rows: &mut [u32],
     state: State,
     caller: u32,
@@ -86,8 +75,7 @@ pub extern "C" fn otp_write_raw(
 }
 
 // Burns a value with its code into a row.
-#[unsafe(no_mangle)]
-pub extern "C" fn otp_write_ecc(
+pub fn otp_write_ecc(
     rows: &mut [u32],
     state: State,
     caller: u32,
@@ -101,13 +89,7 @@ pub extern "C" fn otp_write_ecc(
 }
 
 // Burns the lost 1 of each listed row that can be mended, and reports what was found of each.
-#[unsafe(no_mangle)]
-pub extern "C" fn otp_repair(
-    rows: &mut [u32],
-    state: State,
-    list: &[u32],
-    report: &mut [u32],
-) -> FlatOutcome
+pub fn otp_repair(rows: &mut [u32], state: State, list: &[u32], report: &mut [u32]) -> FlatOutcome
     ensures { (result ≡ flat_outcome (pass.repair rows.old state list.now report.old).left.outcome)
         × (rows.new ≡ (pass.repair rows.old state list.now report.old).left.rows)
         × (report.new ≡ (pass.repair rows.old state list.now report.old).report) }
@@ -116,38 +98,28 @@ pub extern "C" fn otp_repair(
 }
 
 // Advances a lock.
-#[unsafe(no_mangle)]
-pub extern "C" fn otp_advance(
-    state: State,
-    caller: u32,
-    domain: u32,
-    page: u32,
-    level: u32,
-) -> FlatOutcome
+pub fn otp_advance(state: State, caller: u32, domain: u32, page: u32, level: u32) -> FlatOutcome
     ensures { result ≡ flat_outcome (latch.advance state caller domain page level) }
 {
     flat_outcome(advance(state, caller, domain, page, level))
 }
 
 // Shows a lock.
-#[unsafe(no_mangle)]
-pub extern "C" fn otp_show(state: State, caller: u32, domain: u32, page: u32) -> FlatAnswer
+pub fn otp_show(state: State, caller: u32, domain: u32, page: u32) -> FlatAnswer
     ensures { result ≡ flat_answer (latch.show_lock state caller domain page) }
 {
     flat_answer(show(state, caller, domain, page))
 }
 
 // Enters a key.
-#[unsafe(no_mangle)]
-pub extern "C" fn otp_enter_key(state: State, caller: u32, key: &[u8]) -> FlatOutcome
+pub fn otp_enter_key(state: State, caller: u32, key: &[u8]) -> FlatOutcome
     ensures { result ≡ flat_outcome (latch.enter_key state caller key.now) }
 {
     flat_outcome(enter_key(state, caller, key))
 }
 
 // Judges a job and burns it.
-#[unsafe(no_mangle)]
-pub extern "C" fn otp_run_job(rows: &mut [u32], state: State, job: &[u8]) -> FlatOutcome
+pub fn otp_run_job(rows: &mut [u32], state: State, job: &[u8]) -> FlatOutcome
     ensures { (result ≡ flat_outcome (jobs.run_job rows.old state job.now).outcome)
         × (rows.new ≡ (jobs.run_job rows.old state job.now).rows) }
 {
@@ -156,13 +128,7 @@ pub extern "C" fn otp_run_job(rows: &mut [u32], state: State, job: &[u8]) -> Fla
 }
 
 // Judges a job, and burns it until the pulses of the limit are spent.
-#[unsafe(no_mangle)]
-pub extern "C" fn otp_rehearse(
-    rows: &mut [u32],
-    state: State,
-    job: &[u8],
-    limit: u32,
-) -> FlatOutcome
+pub fn otp_rehearse(rows: &mut [u32], state: State, job: &[u8], limit: u32) -> FlatOutcome
     ensures { (result ≡ flat_outcome (jobs.rehearse rows.old state job.now limit).outcome)
         × (rows.new ≡ (jobs.rehearse rows.old state job.now limit).rows) }
 {
@@ -170,8 +136,7 @@ pub extern "C" fn otp_rehearse(
 }
 
 // Takes a chunk of a job into a lent area, and says early what is wrong with it.
-#[unsafe(no_mangle)]
-pub extern "C" fn otp_take_chunk(area: &mut [u8], note: Note, chunk: &[u8]) -> FlatTaken
+pub fn otp_take_chunk(area: &mut [u8], note: Note, chunk: &[u8]) -> FlatTaken
     ensures { (result ≡ flat_taken (taking.take_chunk area.old note chunk.now).taken)
         × (area.new ≡ (taking.take_chunk area.old note chunk.now).area) }
 {
@@ -179,13 +144,7 @@ pub extern "C" fn otp_take_chunk(area: &mut [u8], note: Note, chunk: &[u8]) -> F
 }
 
 // Judges the job that a lent area keeps and burns it.
-#[unsafe(no_mangle)]
-pub extern "C" fn otp_end_job(
-    rows: &mut [u32],
-    state: State,
-    area: &[u8],
-    note: Note,
-) -> FlatOutcome
+pub fn otp_end_job(rows: &mut [u32], state: State, area: &[u8], note: Note) -> FlatOutcome
     ensures { (result ≡ flat_outcome (ending.end_job rows.old state area.now note).outcome)
         × (rows.new ≡ (ending.end_job rows.old state area.now note).rows) }
 {
@@ -193,8 +152,7 @@ pub extern "C" fn otp_end_job(
 }
 
 // Makes the job that burns a present image into a wanted one.
-#[unsafe(no_mangle)]
-pub extern "C" fn otp_make_job(present: &[u32], wanted: &[u32], out: &mut [u8]) -> FlatAnswer
+pub fn otp_make_job(present: &[u32], wanted: &[u32], out: &mut [u8]) -> FlatAnswer
     ensures { (result ≡ flat_answer (making.make_job present.now wanted.now out.old).answer)
         × (out.new ≡ (making.make_job present.now wanted.now out.old).out) }
 {
@@ -202,8 +160,7 @@ pub extern "C" fn otp_make_job(present: &[u32], wanted: &[u32], out: &mut [u8]) 
 }
 
 // Hands over what stands at a place of a job.
-#[unsafe(no_mangle)]
-pub extern "C" fn otp_next_entry(job: &[u8], at: usize) -> FlatEntry
+pub fn otp_next_entry(job: &[u8], at: usize) -> FlatEntry
     ensures { result ≡ flat_entry (handing.handed_at job.now at) }
 {
     flat_entry(next_entry(job, at))

@@ -1,4 +1,4 @@
-// The calls that libsplash.a exports. Each is the call of its own file, and what C takes of its answer.
+// The card's calls of the face for C, as Rattle code has them: splash_c exports each. Each is the call of its own file, and what C takes of its answer.
 ghost use Rattle.std.specs.Prelude.{◌≡◌};
 ghost use Rattle.otp.specs.Flat.{flat_answer};
 ghost use Rattle.splash.specs.Flat.{flat_card};
@@ -12,16 +12,14 @@ use chip::state::State;
 use otp::flat::{FlatAnswer, flat_answer};
 
 // Reads the card.
-#[unsafe(no_mangle)]
-pub extern "C" fn otp_read_card(rows: &[u32], state: State) -> FlatCard
+pub fn otp_read_card(rows: &[u32], state: State) -> FlatCard
     ensures { result ≡ flat_card (reading.read_card rows.now state) }
 {
     flat_card(read_card(rows, state))
 }
 
 // Writes a card.
-#[unsafe(no_mangle)]
-pub extern "C" fn otp_write_card(
+pub fn otp_write_card(
     area: &mut [u8],
     version: u32,
     width: u32,
