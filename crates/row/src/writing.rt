@@ -5,7 +5,7 @@ ghost use Rattle.row.specs.Writing as spec;
 use crate::coding::{flipped, inverted, plain, set_bits};
 
 // The number of a write, the row that it leaves, and the pulses that it takes.
-#[derive(Drop)]
+#[derive(Clone, Copy)]
 pub struct Written {
     pub number: u32,
     pub row: u32,

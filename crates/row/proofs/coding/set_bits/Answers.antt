@@ -6,12 +6,8 @@ use native.Mathlib.Nat.{mod-lt}
 use lib.Pow.{pow_pos}
 use Rattle.row.specs.Code.{set_bits}
 use Rattle.row.proofs.Counts.{ones_counted, ones_low}
-use Rattle.row.proofs.coding.set_bits.Statement.{statement}
-use Rattle.row.proofs.coding.set_bits.Tie as tie
+use Rattle.row.proofs.coding.set_bits.Goals as goal
 
-returns : tie.Need-returns
+pub returns : goal.returns
 unfolding set_bits
 returns c = ones_counted 24 (c.args.row % 2 ^ 24) (mod-lt c.args.row (pow_pos 24)) ∙ ones_low 24 c.args.row
-
-pub set_bits_spec : {M : Type 1} → statement M
-set_bits_spec = tie.close (tie.spec returns)
