@@ -3,7 +3,7 @@ ghost use Rattle.std.specs.Prelude.{◌≡◌, ◌+◌, ◌*◌, ◌^◌, ◌≤
 ghost use Rattle.form.specs.Entries as spec;
 
 // One entry: a row, a kind (0 is ECC, 1 is raw) and a value.
-#[derive(Drop)]
+#[derive(Clone, Copy)]
 pub struct Entry {
     pub row: u32,
     pub kind: u32,
@@ -79,6 +79,7 @@ pub fn count_of(job: &[u8]) -> u32
 }
 
 // The i-th entry of a job, byte by byte: each reads as 0 past the end.
+#[tactic(auto, unfolding(crate::specs::Entries::entry_at))]
 fn cut_entry(job: &[u8], i: u32) -> Entry
     ensures { result ≡ spec.entry_at job.now i }
 {
@@ -90,6 +91,7 @@ fn cut_entry(job: &[u8], i: u32) -> Entry
 }
 
 // The i-th entry of a job that has all of it.
+#[tactic(auto, unfolding(crate::specs::Entries::entry_at))]
 fn whole_entry(job: &[u8], i: u32) -> Entry
     requires { 7 + 6 * i + 6 ≤ length job.now }
     ensures { result ≡ spec.entry_at job.now i }

@@ -7,7 +7,7 @@ use crate::entries::{Entry, byte_at, count_of, entry_at, version_of};
 use chip::pages::Page;
 
 // The first fault of a job, with the index of its entry where it has one.
-#[derive(Drop)]
+#[derive(Clone, Copy)]
 pub enum Fault {
     Sound,
     Short,
@@ -64,6 +64,7 @@ fn marked(job: &[u8]) -> bool
 }
 
 // The fault of a job's head, where the job is to have a version.
+#[tactic(auto, unfolding(crate::specs::Faults::head_fault))]
 fn head_fault(job: &[u8], version: u32) -> Fault
     ensures { result ≡ spec.head_fault version job.now }
 {

@@ -16,6 +16,7 @@ fn put(job: &mut [u8], at: usize, number: u32)
 }
 
 // Puts a number of 16 bits.
+#[tactic(auto, unfolding(crate::specs::Writing::with_bytes))]
 fn put_two(job: &mut [u8], at: usize, number: u32)
     requires { at + 2 < 2 ^ 40 }
     ensures { job.new ≡ spec.with_bytes job.old at (spec.two_bytes number) }
@@ -25,6 +26,7 @@ fn put_two(job: &mut [u8], at: usize, number: u32)
 }
 
 // Puts a number of 24 bits.
+#[tactic(auto, unfolding(crate::specs::Writing::with_bytes))]
 fn put_three(job: &mut [u8], at: usize, number: u32)
     requires { at + 3 < 2 ^ 40 }
     ensures { job.new ≡ spec.with_bytes job.old at (spec.three_bytes number) }
@@ -34,6 +36,7 @@ fn put_three(job: &mut [u8], at: usize, number: u32)
 }
 
 // Puts the mark, the version and the count of a job.
+#[tactic(auto, unfolding(crate::specs::Writing::with_bytes))]
 pub fn put_head(job: &mut [u8], version: u32, count: u32)
     ensures { job.new ≡ spec.with_head job.old version count }
 {
@@ -45,6 +48,7 @@ pub fn put_head(job: &mut [u8], version: u32, count: u32)
 }
 
 // Puts the i-th entry of a job.
+#[tactic(auto, unfolding(crate::specs::Writing::with_bytes))]
 pub fn put_entry(job: &mut [u8], i: u32, entry: Entry)
     ensures { job.new ≡ spec.with_entry job.old i entry }
 {
