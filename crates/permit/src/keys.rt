@@ -21,6 +21,7 @@ fn same(a: Words, b: Words) -> bool
 }
 
 // Whether the key of an index matches the entered one, by one test of all that is secret of it.
+#[tactic(auto, unfolding(crate::specs::Keys::matches))]
 pub fn matches(state: State, index: u32) -> bool
     ensures { result ≡ spec.matches state index }
 {
@@ -44,6 +45,7 @@ pub fn matches(state: State, index: u32) -> bool
 }
 
 // The key level of a page. Level 1 is one path, whether the read key gives it or the no-key state.
+#[tactic(auto, unfolding(crate::specs::Keys::key_level))]
 pub fn key_level(state: State, page: Page) -> u32
     ensures { result ≡ spec.key_level state page.number }
 {
@@ -69,6 +71,7 @@ pub fn key_level(state: State, page: Page) -> u32
 }
 
 // Whether a row is one of a latched valid key.
+#[tactic(auto, unfolding(crate::specs::Keys::hidden))]
 pub fn hidden(state: State, row: u32) -> bool
     ensures { result ≡ spec.hidden state row }
 {

@@ -36,6 +36,7 @@ fn read_level(state: State, caller: u32, row: u32) -> u32
 }
 
 // Whether a caller may read a row.
+#[tactic(auto, unfolding(crate::specs::Permission::may_read))]
 pub fn may_read(state: State, caller: u32, row: u32) -> bool
     ensures { result ≡ spec.may_read state caller row }
 {
@@ -49,6 +50,7 @@ pub fn may_read(state: State, caller: u32, row: u32) -> bool
 }
 
 // Whether a row may be written by Secure, or by Secure for another caller.
+#[tactic(auto, unfolding(crate::specs::Permission::may_write))]
 pub fn may_write(state: State, caller: u32, row: u32) -> bool
     ensures { result ≡ spec.may_write state caller row }
 {
