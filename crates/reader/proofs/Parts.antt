@@ -4,7 +4,7 @@ use mathlib.Core.List.{List}
 use mathlib.Core.Path.{◌≡◌}
 use Prim.Native.Nat.{ℕ, ◌+◌, ◌-◌}
 use native.Mathlib.Omega.{arith}
-use lib.ListN.{length, length-drop, get_or, take, drop}
+use lib.ListN.{length, length-drop, take, drop}
 use lib.Seq.{take_all, get_or-drop}
 use Rattle.form.specs.Entries.{entry_from}
 

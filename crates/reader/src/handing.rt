@@ -6,7 +6,7 @@ use form::entries::{Entry, first_entry};
 use form::faults::{fault_number, form_fault};
 
 // What is handed over: an entry; the end of the bytes; or that no entry stands there, which is 10.
-#[derive(Drop)]
+#[derive(Clone, Copy)]
 pub enum Found {
     Entry(Entry),
     End,
@@ -14,13 +14,14 @@ pub enum Found {
 }
 
 // What was found at a place, and the place after it. At the end and at 10 that is the same place.
-#[derive(Drop)]
+#[derive(Clone, Copy)]
 pub struct Handed {
     pub found: Found,
     pub at: usize,
 }
 
 // Hands over what stands at a place. It reads no head, and judges no row.
+#[tactic(auto, using(crate::proofs::Parts::from_there), unfolding(crate::specs::Handing::found_at))]
 pub fn handed_at(job: &[u8], at: usize) -> Handed
     ensures { result ≡ spec.handed_at job.now at }
 {
