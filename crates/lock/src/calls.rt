@@ -38,6 +38,7 @@ fn advance_number(caller: u32, domain: u32, page: u32, level: u32) -> u32
 }
 
 // Leaves the higher of the present and the asked level.
+#[tactic(auto, using(crate::proofs::Ladders::advance_passed), unfolding(crate::specs::Calls::advance))]
 pub fn advance(state: State, caller: u32, domain: u32, page: u32, level: u32) -> Outcome
     ensures { result ≡ spec.advance state caller domain page level }
 {
@@ -88,6 +89,7 @@ fn show_number(caller: u32, domain: u32, page: u32) -> u32
 }
 
 // The level of a page in a lock domain, to any caller.
+#[tactic(auto, using(crate::proofs::Ladders::show_passed), unfolding(crate::specs::Calls::show_lock))]
 pub fn show(state: State, caller: u32, domain: u32, page: u32) -> Answer
     ensures { result ≡ spec.show_lock state caller domain page }
 {
@@ -129,6 +131,7 @@ fn key_words(key: &[u8]) -> [u16; 8]
 }
 
 // Enters a key, against which the registered ones are compared until a reset or another one is entered.
+#[tactic(auto, using(crate::proofs::Ladders::enter_passed), unfolding(crate::specs::Calls::enter_key))]
 pub fn enter_key(state: State, caller: u32, key: &[u8]) -> Outcome
     ensures { result ≡ spec.enter_key state caller key.now }
 {
