@@ -1,7 +1,7 @@
 -- Digits: which bytes are digits, what is left of a number that is read digit by digit, and two digits of a key.
 -- Assumes nothing.
 use mathlib.Core.Path.{◌≡◌, refl, sym}
-use mathlib.Core.Bool.{Bool, true, false, ◌&&◌, and_false, true≢false}
+use mathlib.Core.Bool.{Bool, true, false, ◌&&◌, and-false, true≢false}
 use mathlib.Core.List.{List, [], ◌∷◌}
 use Prim.Native.Nat.{ℕ, zero, suc, ◌+◌, ◌*◌, ◌-◌, ◌≤◌, ◌<◌}
 use native.Mathlib.Nat.{le_of_suc-le-suc, not-suc-le-zero, mul-one, mul-le-mul_left}
@@ -101,7 +101,7 @@ value_grows base value (byte ∷ others) some =
 pub left_large : (base value : ℕ) (digits : List ℕ) → 1 ≤ base → 4294967295 < value → left base value digits ≡ Not
 left_large base value digits some large =
     let too : 4294967295 < value_with base value digits = omega (arith, value_grows base value digits some) in
-    rw (lt-leb (value_with base value digits) 4294967295 too, and_false (digits_below base digits))
+    rw (lt-leb (value_with base value digits) 4294967295 too, and-false (digits_below base digits))
 
 module _ (base value : ℕ) (digits : List ℕ) (i : ℕ) (h : i < length digits) where
   -- a byte that is no digit of the base

@@ -1,7 +1,7 @@
 -- Places in a text: where a search stops, and the part before it.
 -- Assumes nothing.
 use mathlib.Core.Path.{◌≡◌, refl, ap}
-use mathlib.Core.Bool.{Bool, true, false, and_false}
+use mathlib.Core.Bool.{Bool, true, false, and-false}
 use mathlib.Core.List.{List, [], ◌∷◌}
 use Prim.Native.Nat.{ℕ, suc, ◌+◌, ◌-◌, ◌≤◌, ◌<◌, min}
 use native.Mathlib.Numerals.{add-one}
@@ -79,4 +79,4 @@ unfolding same
 not_same [] [] other = absurd (other refl)
 not_same [] (y ∷ ys) other = refl
 not_same (x ∷ xs) [] other = refl
-not_same (x ∷ xs) (y ∷ ys) other = rw (not_same xs ys (λ e. other (ap suc e))) (and_false (eqb x y))
+not_same (x ∷ xs) (y ∷ ys) other = rw (not_same xs ys (λ e. other (ap suc e))) (and-false (eqb x y))

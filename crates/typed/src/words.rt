@@ -4,7 +4,7 @@ ghost use Rattle.chip.specs.Lists as lists;
 ghost use Rattle.typed.specs.Words as spec;
 
 // What a search stops at.
-#[derive(Drop)]
+#[derive(Clone, Copy)]
 enum Stop {
     LineEnd,
     Comment,
@@ -13,7 +13,7 @@ enum Stop {
 }
 
 // Where a word begins, and where it is past.
-#[derive(Drop)]
+#[derive(Clone, Copy)]
 pub struct Span {
     pub from: usize,
     pub to: usize,
