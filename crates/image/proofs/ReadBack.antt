@@ -1,13 +1,12 @@
 -- An image that was written reads back: the rows of the bytes of rows are those rows.
 -- Assumes nothing.
 use mathlib.Core.List.{List}
-use mathlib.Core.Path.{◌≡◌, sym, ap, ◌∙◌}
+use mathlib.Core.Path.{◌≡◌, sym, ◌∙◌}
 use Prim.Native.Nat.{ℕ, ◌+◌, ◌*◌, ◌/◌, ◌%◌, ◌^◌, ◌<◌}
 use native.Mathlib.Nat.{add-zero}
 use native.Mathlib.Omega.{arith}
-use lib.ListN.{length, get_or}
+use lib.ListN.{length}
 use lib.Seq.{ext_get_or}
-use Rattle.chip.specs.Lists.{listed}
 use Rattle.chip.specs.Slices.{row_at}
 use Rattle.chip.proofs.Lists.{length_listed, listed_at}
 use Rattle.image.specs.Images.{byte_at, row_of, rows_of, byte_of, bytes_of}
