@@ -1,4 +1,6 @@
 // What the programs share: how a line is written, whether two answers or two chips are the same, and how many were compared.
+#![tactic(auto)]
+
 pub mod print;
 pub mod same;
 pub mod tally;

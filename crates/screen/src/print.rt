@@ -1,14 +1,15 @@
 // How a line is written: words, numbers in decimal, values and rows in hexadecimal, fields of bits, columns that stay in line.
 ghost use Rattle.std.specs.Prelude.{◌≤◌};
 
-use libc::STDOUT_FILENO;
+// The number of the file descriptor that a program writes to.
+const STANDARD_OUTPUT: i32 = 1;
 
 pub fn text(words: &[u8]) {
-    io::write_all(STDOUT_FILENO, words);
+    io::write_all(STANDARD_OUTPUT, words);
 }
 
 pub fn number(n: u32) {
-    io::print_decimal(STDOUT_FILENO, n as u64);
+    io::print_decimal(STANDARD_OUTPUT, n as u64);
 }
 
 pub fn blanks(n: usize) {
@@ -38,7 +39,7 @@ pub fn right(n: u32, width: usize) {
 
 pub fn hexadecimal(n: u32, width: usize) {
     text(b"0x");
-    io::print_hex(STDOUT_FILENO, n as u64, width);
+    io::print_hex(STANDARD_OUTPUT, n as u64, width);
 }
 
 // A value of 16 bits.
@@ -62,7 +63,7 @@ pub fn line(words: &[u8]) {
 
 // A number of bytes.
 pub fn bytes(n: usize) {
-    io::print_decimal(STDOUT_FILENO, n as u64);
+    io::print_decimal(STANDARD_OUTPUT, n as u64);
 }
 
 // A number that begins its column.

@@ -4,7 +4,7 @@ ghost use Rattle.screen.specs.Tallies as spec;
 
 use crate::print;
 
-#[derive(Drop)]
+#[derive(Clone, Copy)]
 pub struct Tally {
     pub compared: u32,
     pub differ: u32,
