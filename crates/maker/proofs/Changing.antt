@@ -1,14 +1,14 @@
 -- The rows of two images taken upward: what one row more shows, and the entry that it adds to the job.
 -- Assumes nothing.
 use mathlib.Core.Path.{◌≡◌, refl, sym, ap, ◌∙◌}
-use mathlib.Core.Bool.{Bool, true, false, not, ◌&&◌}
+use mathlib.Core.Bool.{Bool, true, false}
 use mathlib.Core.List.{List, [], ◌∷◌, ◌++◌, append-nil}
 use Prim.Native.Nat.{ℕ, zero, suc, ◌+◌, ◌≤◌, ◌<◌}
 use native.Mathlib.Numerals.{add-one}
 use native.Mathlib.Nat.{add-zero, zero-add}
 use native.Mathlib.Omega.{arith}
 use borrow.Author.Tests.{lt-ltb, le-ltb, eq-eqb, ne_eqb, eqb-true, eqb-false}
-use lib.Dec.{eqb, ltb}
+use lib.Dec.{eqb}
 use lib.ListN.{length, length-append}
 use Rattle.std.specs.Prelude.{if◌then◌else◌}
 use Rattle.chip.specs.Slices.{row_at}
@@ -16,7 +16,6 @@ use Rattle.form.specs.Writing.{with_entry, with_entries}
 use Rattle.form.specs.declared.entries.Entry.{Entry}
 use Rattle.maker.specs.Images.{data_differs, some_below, change_at, changes_below}
 use Rattle.maker.specs.Comparing.{shown_below, with_row}
-use Rattle.maker.specs.declared.comparing.Compared.{Compared}
 
 -- some entries, and then others
 pub then_entries : (job : List ℕ) (i : ℕ) (first others : List Entry)

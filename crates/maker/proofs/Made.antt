@@ -9,7 +9,7 @@ use Rattle.answer.specs.Answers.{refused, told}
 use Rattle.form.specs.Writing.{with_job}
 use Rattle.maker.specs.Images.{changes}
 use Rattle.maker.specs.Comparing.{shown_below, judged_by}
-use Rattle.maker.specs.Making.{Made, job_bytes, make_number, make_job}
+use Rattle.maker.specs.Making.{job_bytes, make_number, make_job}
 use Rattle.maker.specs.declared.comparing.Compared.{Compared}
 
 module _ (present wanted out : List ℕ) where

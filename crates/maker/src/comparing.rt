@@ -7,7 +7,7 @@ use chip::pages::Page;
 use chip::slices::MOST_HELD;
 
 // Whether some row of either is too large, some row loses a bit, some row from 0xf40 up differs; and how many rows below that differ.
-#[derive(Drop)]
+#[derive(Clone, Copy)]
 pub struct Compared {
     pub large: bool,
     pub lost: bool,
