@@ -14,10 +14,10 @@ use lib.Seq.{get_or-append_seam, take-suc-set, take_all, drop-cons, drop-length}
 use Rattle.chip.specs.Lists.{listed, same}
 
 -- what stands at a place of a list is the same whatever stands past it
-pub getD-in {ℓ} : {A : Type ℓ} (l : List A) (k : ℕ) (d e : A) → k < length l → get_or l k d ≡ get_or l k e
-getD-in [] k d e h = absurd (not-suc-le-zero h)
-getD-in (x ∷ l) zero d e h = refl
-getD-in (x ∷ l) (suc k) d e h = getD-in l k d e (le_of_suc-le-suc h)
+pub get_or-in {ℓ} : {A : Type ℓ} (l : List A) (k : ℕ) (d e : A) → k < length l → get_or l k d ≡ get_or l k e
+get_or-in [] k d e h = absurd (not-suc-le-zero h)
+get_or-in (x ∷ l) zero d e h = refl
+get_or-in (x ∷ l) (suc k) d e h = get_or-in l k d e (le_of_suc-le-suc h)
 
 module _ {ℓ} {A : Type ℓ} (rule : ℕ → A) where
   pub length_listed : (n : ℕ) → length (listed n rule) ≡ n
