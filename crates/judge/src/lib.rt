@@ -1,2 +1,4 @@
 // Judging a job whole, before its first pulse (document 01, "Jobs").
+#![tactic(auto)]
+
 pub mod verdicts;

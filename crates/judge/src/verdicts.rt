@@ -14,7 +14,7 @@ use permit::permission::{may_write, share_permission};
 use row::writing::{Written, write_ecc, write_raw};
 
 // The number of a job, and the place that goes with it.
-#[derive(Drop)]
+#[derive(Clone, Copy)]
 pub struct Verdict {
     pub number: u32,
     pub place: u32,
@@ -32,7 +32,7 @@ pub fn entry_written(old: u32, entry: Entry) -> Written
 }
 
 // A row, and whether Secure may write it.
-#[derive(Drop)]
+#[derive(Clone, Copy)]
 struct Permit {
     row: u32,
     may: bool,
