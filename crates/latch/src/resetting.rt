@@ -30,7 +30,7 @@ pub fn all_in_range(rows: &[u32]) -> bool
 }
 
 // The fields of one lock word.
-#[derive(Drop)]
+#[derive(Clone, Copy)]
 struct LockWord {
     secure: u8,
     nonsecure: u8,
@@ -62,7 +62,7 @@ fn lock_word(low_row: u32, high_row: u32) -> LockWord
 }
 
 // The fields of all 64 lock words.
-#[derive(Drop)]
+#[derive(Clone, Copy)]
 struct Locks {
     secure: Levels,
     nonsecure: Levels,
