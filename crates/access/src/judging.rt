@@ -10,6 +10,7 @@ use chip::state::State;
 use permit::keys::hidden;
 
 // The number of a row that may or may not be used: 6, 7, 3, or 0.
+#[tactic(auto, unfolding(crate::specs::Judging::row_rungs))]
 pub fn row_number(rows: &[u32], state: State, may: bool, row: u32) -> u32
     ensures { result ≡ first_of (spec.row_rungs rows.now state may row) }
 {
@@ -27,6 +28,7 @@ pub fn row_number(rows: &[u32], state: State, may: bool, row: u32) -> u32
 }
 
 // The number of a call on one row, before the row is used. `coded` says whether it goes by ECC, `too_large` whether its value is.
+#[tactic(auto, unfolding(crate::specs::Judging::call_rungs))]
 pub fn call_number(
     rows: &[u32],
     state: State,

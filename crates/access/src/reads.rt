@@ -29,6 +29,7 @@ fn readable(rows: &[u32], state: State, caller: u32, row: u32, coded: bool) -> A
 }
 
 // Reads a row as it is.
+#[tactic(auto, unfolding(crate::specs::Reads::read_raw))]
 pub fn read_raw(rows: &[u32], state: State, caller: u32, row: u32) -> Answer
     ensures { result ≡ spec.read_raw rows.now state caller row }
 {
