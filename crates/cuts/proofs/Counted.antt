@@ -55,16 +55,16 @@ use Rattle.laws.proofs.Writes.{in_itself, keeps_bits, stands_already}
 none_gain : {least : ℕ} (es : List Entry) (rows : List ℕ) → Rising least es → Gained rows (cut_gained 0 es) rows
 unfolding cut_gained
 none_gain [] rows Rising.none = Gained.none
-none_gain (e ∷ others) rows (Rising.more low high rest) =
+none_gain {least} (e ∷ others) rows (Rising.more low high rest) =
     Gained.more e.row (row_at rows e.row) 0 (omega arith) (in_itself (row_at rows e.row)) (sym (stands_already (row_at rows e.row)))
-    (subst (λ (same : List ℕ). Gained same (cut_gained 0 others) rows) (sym (set-get_or rows e.row 0)) (none_gain others rows rest))
+    (subst (λ (same : List ℕ). Gained same (cut_gained 0 others) rows) (sym (set-get_or rows e.row 0)) (none_gain {least = e.row + 1} others rows rest))
 
 entries_gain : {least : ℕ} (es : List Entry) (rows : List ℕ) (limit : ℕ) → Rising least es
     → Gained rows (rehearsed rows limit es).gained (rehearsed rows limit es).rows
 unfolding rehearsed cut_gained
 entries_gain [] rows limit Rising.none = Gained.none
-entries_gain (e ∷ others) rows limit (Rising.more low high rest) =
-    go (leb u limit) refl (entries_gain others (with_entry rows e) (limit - u) rest)
+entries_gain {least} (e ∷ others) rows limit (Rising.more low high rest) =
+    go (leb u limit) refl (entries_gain {least = e.row + 1} others (with_entry rows e) (limit - u) rest)
   where
     old : ℕ
     old = row_at rows e.row

@@ -36,10 +36,10 @@ use Rattle.cuts.proofs.CutPower.{cut_between, cuts_between, still, reset_again, 
 cut_below : {rows left : List ℕ} {least : ℕ} (es : List Entry) (k : ℕ) → Rising least es → CutOf rows es left → k < least
     → row_at left k ≡ row_at rows k
 cut_below [] k Rising.none CutOf.at_end below = refl
-cut_below (e ∷ others) k (Rising.more low high rest) (CutOf.within {rows} row over under) below =
+cut_below {rows} (e ∷ others) k (Rising.more low high rest) (CutOf.within row over under) below =
     get_or-set_other rows e.row k row 0 (λ same. omega arith)
-cut_below (e ∷ others) k (Rising.more low high rest) (CutOf.past {rows} cut) below =
-    cut_below others k rest cut (omega arith) ∙ get_or-set_other rows e.row k (written_over rows e).row 0 (λ same. omega arith)
+cut_below {rows} {left} {least} (e ∷ others) k (Rising.more low high rest) (CutOf.past cut) below =
+    cut_below {rows = with_entry rows e} {least = e.row + 1} others k rest cut (omega arith) ∙ get_or-set_other rows e.row k (written_over rows e).row 0 (λ same. omega arith)
 
 -- a row that differs where one was put in is that one
 put_there : (rows : List ℕ) (at k new : ℕ) → (row_at (set rows at new) k ≡ row_at rows k → ⊥) → k ≡ at

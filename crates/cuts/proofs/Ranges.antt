@@ -3,7 +3,7 @@
 use mathlib.Core.Bool.{true, and-eq-true_iff}
 use mathlib.Core.List.{List, [], ◌∷◌}
 use mathlib.Core.Path.{◌≡◌, refl}
-use Prim.Native.Nat.{ℕ, zero, suc, ◌^◌, ◌≤◌, ◌<◌}
+use Prim.Native.Nat.{ℕ, zero, suc, ◌+◌, ◌^◌, ◌≤◌, ◌<◌}
 use native.Mathlib.Omega.{arith}
 use borrow.Author.Tests.{leb-true, le-leb}
 use lib.Dec.{leb}
@@ -12,7 +12,7 @@ use Rattle.chip.specs.Slices.{row_at}
 use Rattle.chip.specs.declared.state.State.{State}
 use Rattle.latch.specs.Resetting.{all_in_range}
 use Rattle.form.specs.declared.entries.Entry.{Entry}
-use Rattle.job.specs.Burning.{written_over, all_written}
+use Rattle.job.specs.Burning.{written_over, with_entry, all_written}
 use Rattle.laws.specs.Votes.{EachIn}
 use Rattle.laws.proofs.Between.{in_le}
 use Rattle.laws.proofs.Entries.{entry_small}
@@ -38,8 +38,8 @@ pub range_written : {rows : List ℕ} {state : State} {least : ℕ} (es : List E
     → all_in_range (all_written rows es) ≡ true
 unfolding all_written
 range_written [] Admitted.none small = small
-range_written {rows} {state} (e ∷ others) (Admitted.more low high value done rest) small =
+range_written {rows} {state} {least} (e ∷ others) (Admitted.more low high value done rest) small =
     let new : ℕ = (written_over rows e).row in
     let old-low : row_at rows e.row ≤ 16777215 = (judged_done rows state e done).1 in
     let new-low : new < 2 ^ 24 = entry_small (row_at rows e.row) e (omega arith) value in
-    range_written others (admitted_next e.row new rest) (range_set rows e.row new small (omega arith))
+    range_written {rows = with_entry rows e} {least = e.row + 1} others (admitted_next e.row new rest) (range_set rows e.row new small (omega arith))

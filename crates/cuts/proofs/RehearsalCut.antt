@@ -76,9 +76,9 @@ pub rehearsed_cut : {rows : List ℕ} {least : ℕ} (limit : ℕ) (es : List Ent
     → IsCut rows es (rehearsed rows limit es)
 unfolding rehearsed
 rehearsed_cut {rows} limit [] whole Rising.none = (CutOf.at_end, sym (new_none rows))
-rehearsed_cut {rows} limit (e ∷ others) whole (Rising.more low high rest) =
+rehearsed_cut {rows} {least} limit (e ∷ others) whole (Rising.more low high rest) =
     go (leb (written_over rows e).pulses limit) refl
-    (rehearsed_cut (limit - (written_over rows e).pulses) others
+    (rehearsed_cut {rows = with_entry rows e} {least = e.row + 1} (limit - (written_over rows e).pulses) others
     (length-set rows e.row (written_over rows e).row ∙ whole) rest)
   where
     old : ℕ

@@ -108,14 +108,14 @@ outside rows (e ∷ others) k apart =
 pub below_apart : {least : ℕ} (es : List Entry) (k : ℕ) → Rising least es → k < least → Apart k es
 unfolding Apart
 below_apart [] k Rising.none below = tt
-below_apart (e ∷ others) k (Rising.more low high rest) below = (λ same. omega arith, below_apart others k rest (omega arith))
+below_apart {least} (e ∷ others) k (Rising.more low high rest) below = (λ same. omega arith, below_apart {least = e.row + 1} others k rest (omega arith))
 
 -- nor has one from 0xf40 to 0xf7f
 pub kept_apart : {rows : List ℕ} {state : State} {least : ℕ} (es : List Entry) (k : ℕ) → Admitted rows state least es → 0xf40 ≤ k → k < 0xf80
     → Apart k es
 unfolding Apart
 kept_apart [] k Admitted.none from to = tt
-kept_apart (e ∷ others) k (Admitted.more low place small done rest) from to = (λ same. other same place, kept_apart others k rest from to)
+kept_apart {least = least} (e ∷ others) k (Admitted.more low place small done rest) from to = (λ same. other same place, kept_apart {least = e.row + 1} others k rest from to)
   where
     other : k ≡ e.row → Placed e → ⊥
     other same (inl data-row) = omega arith
@@ -126,11 +126,11 @@ pub all_pulses_lem : {rows : List ℕ} {state : State} {least : ℕ} (es : List 
     → all_pulses rows es ≡ newly_set rows (all_written rows es)
 unfolding all_pulses all_written
 all_pulses_lem {rows} [] whole Admitted.none = sym (new_none rows)
-all_pulses_lem {rows} (e ∷ others) whole (Admitted.more low place small done rest) =
+all_pulses_lem {rows} {state} {least} (e ∷ others) whole (Admitted.more low place small done rest) =
     let high = placed_low e place in
     let new : ℕ = (written_over rows e).row in
     ap₂ ◌+◌ (entry_pulses (row_at rows e.row) e ∙ sym (new_set rows e.row new (omega arith)))
-    (all_pulses_lem others (length-set rows e.row new ∙ whole) (admitted_next e.row new rest))
+    (all_pulses_lem {rows = with_entry rows e} {least = e.row + 1} others (length-set rows e.row new ∙ whole) (admitted_next e.row new rest))
     ∙ new_through (with_keeps rows e) (all_keep others (with_entry rows e))
 
 -- written again over rows between the old ones and those that they leave, they are accepted and leave the same
@@ -138,7 +138,7 @@ pub again : {rows left : List ℕ} {state : State} {least : ℕ} (es : List Entr
     → EachIn rows left → EachIn left (all_written rows es) → Admitted left state least es × (all_written left es ≡ all_written rows es)
 unfolding all_written
 again [] whole Admitted.none over under = (Admitted.none, each_both under over)
-again {rows} {left} {state} (e ∷ others) whole (Admitted.more low place small done rest) over under =
+again {rows} {left} {state} {least} (e ∷ others) whole (Admitted.more low place small done rest) over under =
     let high = placed_low e place in
     let at : ℕ = e.row in
     let new : ℕ = (written_over rows e).row in
@@ -149,7 +149,7 @@ again {rows} {left} {state} (e ∷ others) whole (Admitted.more low place small 
     let inside = rw final at (each_at at under) in
     let same = entry_again (row_at rows at) (row_at left at) e judged.2 (each_at at over) inside in
     let others-again =
-    again others (length-set rows at new ∙ whole) next
+    again {rows = with_entry rows e} {left = set left at new} {least = at + 1} others (length-set rows at new ∙ whole) next
     (each_set at new new over (in_itself new)) (each_under at new under (rw final (in_itself new))) in
     let bound : row_at left at ≤ new = in_le (row_at left at) new inside in
     let new-low : new < 2 ^ 24 = entry_small (row_at rows at) e (omega arith) small in (

@@ -47,8 +47,8 @@ pub rehearsed_below : {least : ℕ} (es : List Entry) (rows : List ℕ) (limit k
     → row_at (rehearsed rows limit es).rows k ≡ row_at rows k
 unfolding rehearsed
 rehearsed_below [] rows limit k none h = refl
-rehearsed_below (e ∷ others) rows limit k (more low high rest) h =
+rehearsed_below {least} (e ∷ others) rows limit k (more low high rest) h =
     let u : ℕ = (written_over rows e).pulses in
     let other : (new : ℕ) → row_at (set rows e.row new) k ≡ row_at rows k = λ new. get_or-set_other rows e.row k new 0 (λ same. omega arith) in
     both_ways (λ (p : Progress). row_at p.rows k ≡ row_at rows k) (leb u limit) _ _
-    (rehearsed_below others (with_entry rows e) (limit - u) k rest (omega arith) ∙ other (written_over rows e).row) (other _)
+    (rehearsed_below {least = e.row + 1} others (with_entry rows e) (limit - u) k rest (omega arith) ∙ other (written_over rows e).row) (other _)

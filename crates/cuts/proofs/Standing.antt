@@ -68,9 +68,9 @@ stands_to : {least : ℕ} (job : List ℕ) (n i : ℕ) (rows : List ℕ) (limit 
     → StandsTo job n i rows (rehearsed rows limit (entries_from job i n))
 unfolding rehearsed entries_from
 stands_to job zero i rows limit long Rising.none = (λ k from to. absurd (omega arith), λ below stands. absurd (omega arith))
-stands_to job (suc n) i rows limit long (Rising.more low high rest) =
+stands_to {least} job (suc n) i rows limit long (Rising.more low high rest) =
     go (leb (written_over rows (entry_at job i)).pulses limit) refl
-    (stands_to job n (suc i) (with_entry rows (entry_at job i)) (limit - (written_over rows (entry_at job i)).pulses)
+    (stands_to {least = (entry_at job i).row + 1} job n (suc i) (with_entry rows (entry_at job i)) (limit - (written_over rows (entry_at job i)).pulses)
     (length-set rows (entry_at job i).row (written_over rows (entry_at job i)).row ∙ long) rest)
   where
     e : Entry

@@ -126,14 +126,14 @@ in_turn_lem : {least : ℕ} (es : List Entry) (at : ℕ) (rows : List ℕ) (stat
     → Admitted rows state least es → EachDone (chip_of rows state) (writes_of es) (all_pulses rows es) (left_by es rows state)
 unfolding form_faults writes_of all_pulses all_written all_gained
 in_turn_lem [] at rows state long sound Admitted.none = EachDone.none
-in_turn_lem (e ∷ others) at rows state long sound (Admitted.more low place small judged rest) =
+in_turn_lem {least} (e ∷ others) at rows state long sound (Admitted.more low place small judged rest) =
     let forms = both_sound (form_fault at e) (form_faults (at + 1) others) sound in
     let new : ℕ = (written_over rows e).row in
     let write = entry_made rows state e long place small judged (form_kept at e forms.0) in
     let next : State = with_gained state (e.row gains (written_over rows e).pulses ∷ []) in
     let agree = tallies_agree state next.tallies 0 in
     let later =
-    in_turn_lem others (at + 1) (with_entry rows e) next (length-set rows e.row new ∙ long) forms.1 (admitted_alike agree (admitted_next e.row new rest)) in
+    in_turn_lem {least = e.row + 1} others (at + 1) (with_entry rows e) next (length-set rows e.row new ∙ long) forms.1 (admitted_alike agree (admitted_next e.row new rest)) in
     subst (λ (n : ℕ). EachDone (chip_of rows state) (write_of e ∷ writes_of others) (n + all_pulses (with_entry rows e) others) (left_by others (with_entry rows e) next))
     (ap (λ (r : Result). r.answer.pulses) write)
     (EachDone.more (ap (λ (r : Result). r.answer.number) write)

@@ -1,6 +1,6 @@
 -- Two chips that agree: their calls on rows are refused alike, and where one is not refused the entry is the same.
 -- Assumes nothing.
-use mathlib.Core.Bool.{Bool, true, false, not, ◌&&◌, ◌||◌, or_true}
+use mathlib.Core.Bool.{Bool, true, false, not, ◌&&◌, ◌||◌, or-true}
 use mathlib.Core.List.{List, ◌∷◌, ◌++◌}
 use mathlib.Core.Path.{◌≡◌, refl, sym, ap, ap₂, ◌∙◌}
 use Prim.Native.Nat.{ℕ, zero, suc, ◌+◌, ◌-◌, ◌/◌, ◌≤◌, max}
@@ -51,7 +51,7 @@ module _ (a b : Chip) (agree : Agree a b) where
   SameEntry row = row_at a.rows row ≡ row_at b.rows row
 
   known : (row : ℕ) → row ≤ 4095 → hidden a.state row ≡ false → may_read a.state 1 row ≡ true → SameEntry row
-  known row low shown may = agree.entries row low (rw (shown, may) (or_true (is_lock_row row)))
+  known row low shown may = agree.entries row low (rw (shown, may) (or-true (is_lock_row row)))
 
   -- ---- one row, used by a call that is allowed only where Non-secure may read
 

@@ -1,6 +1,6 @@
 -- Two chips, written out: they agree on what Non-secure may know, and differ in all that may differ.
 -- Assumes nothing.
-use mathlib.Core.Bool.{Bool, true, false, not, ◌&&◌, and_false, true≢false}
+use mathlib.Core.Bool.{Bool, true, false, not, ◌&&◌, and-false, true≢false}
 use mathlib.Core.List.{List, []}
 use mathlib.Core.Path.{◌≡◌, refl, sym, ap, ◌∙◌}
 use Prim.Native.Nat.{ℕ, zero, suc, ◌-◌}
@@ -55,7 +55,7 @@ same_match index = go (leb 1 index && leb index 6) (index - 1)
 
     go : (there : Bool) (i : ℕ) → match_at there one i ≡ match_at there other i
     go there zero = refl
-    go there (suc i) = rw (invalid false i, invalid true i, and_false there)
+    go there (suc i) = rw (invalid false i, invalid true i, and-false there)
 
 -- page 3's no-key state does not count, since its write key matches on both
 same_key_level : (page : ℕ) → key_level one page ≡ key_level other page
