@@ -53,12 +53,12 @@ cut_finished : {rows left : List ℕ} {least : ℕ} (es : List Entry) (burnt k :
     → (row_at left burnt ≡ row_at rows burnt → ⊥) → k < burnt → row_at left k ≡ row_at (all_written rows es) k
 unfolding all_written
 cut_finished [] burnt k Rising.none CutOf.at_end changed below = absurd (changed refl)
-cut_finished (e ∷ others) burnt k (Rising.more low high rest) (CutOf.within {rows} row over under) changed below =
+cut_finished {rows} (e ∷ others) burnt k (Rising.more low high rest) (CutOf.within row over under) changed below =
     let here = put_there rows e.row burnt row changed in
     get_or-set_other rows e.row k row 0 (λ same. omega arith)
     ∙ sym (outside rows (e ∷ others) k (below_apart (e ∷ others) k (Rising.more {least = e.row} (omega arith) high rest) (omega arith)))
-cut_finished {left = left} (e ∷ others) burnt k (Rising.more low high rest) (CutOf.past {rows} cut) changed below =
-    go (eqb (row_at left burnt) (row_at (with_entry rows e) burnt)) refl (λ later. cut_finished others burnt k rest cut later below)
+cut_finished {rows} {left} {least} (e ∷ others) burnt k (Rising.more low high rest) (CutOf.past cut) changed below =
+    go (eqb (row_at left burnt) (row_at (with_entry rows e) burnt)) refl (λ later. cut_finished {rows = with_entry rows e} {least = e.row + 1} others burnt k rest cut later below)
   where
     go : (t : Bool) → eqb (row_at left burnt) (row_at (with_entry rows e) burnt) ≡ t
         → ((row_at left burnt ≡ row_at (with_entry rows e) burnt → ⊥) → row_at left k ≡ row_at (all_written (with_entry rows e) others) k)
