@@ -27,7 +27,7 @@ use Rattle.made.specs.Reading.{stands_after, handed_in, each_of, HandsOverAll, N
 
 -- what stands at a place: an entry whose six bytes are there, or the end, or 10
 pub data Stands (job : List ℕ) (at : ℕ) : Found → Type 0 where
-  an_entry : at + 6 ≤ length job → Stands job at (an_entry (entry_from job at))
+  an_entry_lem : at + 6 ≤ length job → Stands job at (an_entry (entry_from job at))
   an_end_lem : length job ≤ at → Stands job at End
   ten : at < length job → Stands job at Malformed
 
@@ -39,7 +39,7 @@ stands job at = go (leb (length job) at) (ltb (length job) (at + 6)) (well_forme
         → Stands job at (if past then End else if part then Malformed else if well then an_entry (entry_from job at) else Malformed)
     go true part well e f = an_end_lem (leb-true (length job) at e)
     go false true well e f = ten (leb-false (length job) at e)
-    go false false true e f = an_entry (ltb-false (length job) (at + 6) f)
+    go false false true e f = an_entry_lem (ltb-false (length job) (at + 6) f)
     go false false false e f = ten (leb-false (length job) at e)
 
 pub stays_put : StaysPut
@@ -51,7 +51,7 @@ step : (job : List ℕ) (at : ℕ) → (handed_at job at).at ≤ max at (length 
 step job at = go (stands job at)
   where
     go : {found : Found} → Stands job at found → place_after found at ≤ max at (length job)
-    go (an_entry room) = omega arith
+    go (an_entry_lem room) = omega arith
     go (an_end_lem past) = omega arith
     go (ten inside) = omega arith
 
@@ -76,7 +76,7 @@ unfolding stands_after
 ends job zero at few = go (found_at job at) refl (stands job at)
   where
     go : (found : Found) → found_at job at ≡ found → Stands job at found → Ended job at
-    go (an_entry e) is (an_entry room) = absurd (omega arith)
+    go (an_entry e) is (an_entry_lem room) = absurd (omega arith)
     go End is (an_end_lem past) = inl is
     go Malformed is (ten inside) = inr is
 ends job (suc steps) at few = go (found_at job at) refl (stands job at) (ends job steps (handed_at job at).at)
@@ -87,7 +87,7 @@ ends job (suc steps) at few = go (found_at job at) refl (stands job at) (ends jo
     go : (found : Found) → found_at job at ≡ found → Stands job at found
         → (length job - (handed_at job at).at < 6 * (steps + 1) → Ended job (stands_after job (handed_at job at).at steps))
         → Ended job (stands_after job (handed_at job at).at steps)
-    go (an_entry e) is (an_entry room) later = later (rw is (omega arith))
+    go (an_entry e) is (an_entry_lem room) later = later (rw is (omega arith))
     go End is (an_end_lem past) later = stays (inl is)
     go Malformed is (ten inside) later = stays (inr is)
 
