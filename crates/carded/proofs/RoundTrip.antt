@@ -68,7 +68,7 @@ left_held : {rows : List ℕ} {state : State} {least : ℕ} (es : List Entry) �
     → Each (λ e. Holds (row_at (all_written rows es) e.row) e.value) es
 unfolding all_written
 left_held [] whole Admitted.none Each.none = Each.none
-left_held {rows} {state} (e ∷ others) whole (Admitted.more low place small done rest) (Each.more same_entry coded coded-others) =
+left_held {rows} {state} {least} (e ∷ others) whole (Admitted.more low place small done rest) (Each.more same_entry coded coded-others) =
     let at : ℕ = e.row in
     let new : ℕ = (written_over rows e).row in
     let high = placed_low e place in
@@ -82,7 +82,7 @@ left_held {rows} {state} (e ∷ others) whole (Admitted.more low place small don
     let same : read_row new ≡ _ = ap (λ (w : Written). read_row w.row) is ∙ back in
     Each.more e
     (rw final (record { small = omega arith; done = ap (λ (a : Answer). a.number) same; reads = ap (λ (a : Answer). a.value) same }))
-    (left_held others (length-set rows at new ∙ whole) next coded-others)
+    (left_held {rows = with_entry rows e} {least = at + 1} others (length-set rows at new ∙ whole) next coded-others)
 
 -- ---- so the card reads back
 
