@@ -106,7 +106,7 @@ fit_said first line =
 fit_more : (line : Line) (others : List entry.Entry) → Fit line → AllFit others → AllFit (entry_by line ++ others)
 unfolding AllFit
 fit_more Empty others fit rest = rest
-fit_more (Version version) others fit rest = rest
+fit_more (Version number) others fit rest = rest
 fit_more (Entry entry) others fit rest = (fit.0, rest)
 fit_more (Wrong word why) others fit rest = rest
 

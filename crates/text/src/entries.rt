@@ -10,7 +10,7 @@ use typed::numbers::Number;
 use typed::words::{part, same, word};
 
 // What is wrong with a word of a text. From `EccValue` on it is what the library finds wrong with the job that the text gives.
-#[derive(Drop)]
+#[derive(Clone, Copy)]
 pub enum Why {
     Nothing,
     Missing,
@@ -31,7 +31,7 @@ pub enum Why {
 }
 
 // What a line says: nothing, the job's version, an entry, or that one of its words, counted from 0, is wrong.
-#[derive(Drop)]
+#[derive(Clone, Copy)]
 pub enum Line {
     Empty,
     Version(u32),

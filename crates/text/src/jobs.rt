@@ -10,7 +10,7 @@ use typed::words::{line_at, next_line};
 
 // How far a text is read: the line that was read last, where it and the next begin, whether no line has said anything yet, the version and
 // the entries so far, and what is wrong with which word of the line. Once `going` is false, nothing more is read.
-#[derive(Drop)]
+#[derive(Clone, Copy)]
 pub struct Reading {
     pub line: u32,
     pub start: usize,

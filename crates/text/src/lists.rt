@@ -10,7 +10,7 @@ use typed::numbers::Number;
 use typed::words::line_at;
 
 // What a line says: nothing, a row, or that one of its words, counted from 0, is wrong.
-#[derive(Drop)]
+#[derive(Clone, Copy)]
 enum Listed {
     Empty,
     Row(u32),
