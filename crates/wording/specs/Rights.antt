@@ -1,5 +1,5 @@
 -- What the screens tell of a row: what each caller may do with it, and the levels that decide it (document 01, "Keys", "Permission").
-use Rattle.std.specs.Prelude.{ℕ, Bool, true, false}
+use Rattle.std.specs.Prelude.{ℕ}
 use Rattle.std.specs.Prelude.{if◌then◌else◌}
 use Rattle.permit.specs.Keys.{hidden}
 use Rattle.permit.specs.Permission.{may_read, may_write, caller_level, row_key_level}

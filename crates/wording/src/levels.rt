@@ -10,7 +10,7 @@ use permit::permission::{caller_level, row_key_level};
 use screen::print;
 
 // The levels of a row's page: the caller's own, Secure's, and the key level.
-#[derive(Drop)]
+#[derive(Clone, Copy)]
 pub struct Levels {
     pub own: u32,
     pub secure: u32,

@@ -1,4 +1,6 @@
 // The words of the crew's screens: answers, conditions, names, owners, levels, bars.
+#![tactic(auto)]
+
 pub mod burnt;
 pub mod callers;
 pub mod condition;

@@ -8,7 +8,7 @@ use permit::keys::hidden;
 use permit::permission::{may_read, may_write};
 
 // Of each caller: 0 nothing, 1 read, 2 read and write.
-#[derive(Drop)]
+#[derive(Clone, Copy)]
 pub struct Rights {
     pub secure: u32,
     pub nonsecure: u32,
