@@ -1,5 +1,8 @@
 // The console of the crew's command: its words, the files that they name, and how a command ends.
+#![tactic(auto)]
+
 pub mod ended;
+pub(crate) mod errors;
 pub mod file_errors;
 pub mod files;
 mod names;

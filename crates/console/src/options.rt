@@ -1,8 +1,8 @@
 // Which of the command's words is what, by their places. An option is known here and nowhere else.
-use crate::word::{command, is, is_option};
+use crate::word::{arg_count, command, is, is_option};
 
 // The places of what was given, 0 for what was not. `first` to `third` are the words that follow no option.
-#[derive(Drop)]
+#[derive(Clone, Copy)]
 pub struct Words {
     pub first: usize,
     pub second: usize,
@@ -63,8 +63,8 @@ pub(crate) fn before(place: usize) -> usize {
 }
 
 // The value of the option before it. An option is no value.
-fn with_value(mut words: Words, place: usize) -> Words {
-    if is_option(place) {
+fn with_value(rt: &HostRuntime, mut words: Words, place: usize) -> Words {
+    if is_option(rt, place) {
         words.missing = before(place);
         return words;
     }
@@ -100,23 +100,23 @@ fn awaiting(mut words: Words, option: u32, before: usize, place: usize) -> Words
     words
 }
 
-fn with_option(words: Words, place: usize) -> Words {
-    if is(place, b"--key") {
+fn with_option(rt: &HostRuntime, words: Words, place: usize) -> Words {
+    if is(rt, place, b"--key") {
         return awaiting(words, KEY, words.key, place);
     }
-    if is(place, b"--save") {
+    if is(rt, place, b"--save") {
         return awaiting(words, SAVE, words.save, place);
     }
-    if is(place, b"--vote") {
+    if is(rt, place, b"--vote") {
         return awaiting(words, VOTE, words.vote, place);
     }
-    if is(place, b"--as") {
+    if is(rt, place, b"--as") {
         return awaiting(words, CALLER, words.caller, place);
     }
-    if is(place, b"--rows") {
+    if is(rt, place, b"--rows") {
         return awaiting(words, ROWS, words.rows, place);
     }
-    with_flag(words, place)
+    with_flag(rt, words, place)
 }
 
 // An option that stands already.
@@ -128,19 +128,19 @@ fn once(mut words: Words, before: usize, place: usize) -> Words {
 }
 
 // An option that has no value.
-fn with_flag(mut words: Words, place: usize) -> Words {
+fn with_flag(rt: &HostRuntime, mut words: Words, place: usize) -> Words {
     let raw = words.raw;
     let nonsecure = words.nonsecure;
     let replace = words.replace;
-    if is(place, b"--raw") {
+    if is(rt, place, b"--raw") {
         words.raw = place;
         return once(words, raw, place);
     }
-    if is(place, b"--non-secure") {
+    if is(rt, place, b"--non-secure") {
         words.nonsecure = place;
         return once(words, nonsecure, place);
     }
-    if is(place, b"--replace") {
+    if is(rt, place, b"--replace") {
         words.replace = place;
         return once(words, replace, place);
     }
@@ -149,21 +149,21 @@ fn with_flag(mut words: Words, place: usize) -> Words {
 }
 
 // The words with one more of them taken. Nothing is taken after a wrong one.
-fn with(words: Words, place: usize) -> Words {
+fn with(rt: &HostRuntime, words: Words, place: usize) -> Words {
     if words.wrong != 0 || words.twice != 0 || words.missing != 0 {
         return words;
     }
     if words.awaited != NOTHING {
-        return with_value(words, place);
+        return with_value(rt, words, place);
     }
-    if is_option(place) {
-        return with_option(words, place);
+    if is_option(rt, place) {
+        return with_option(rt, words, place);
     }
     with_plain(words, place)
 }
 
 // All words after the command's name.
-pub(crate) fn taken() -> Words {
+pub(crate) fn taken(rt: &HostRuntime) -> Words {
     let mut words = Words {
         first: 0,
         second: 0,
@@ -181,10 +181,10 @@ pub(crate) fn taken() -> Words {
         wrong: 0,
         twice: 0,
     };
-    let first = command() + 1;
-    let count = os::arg_count();
+    let first = command(rt) + 1;
+    let count = arg_count(rt);
     for place in first..count {
-        words = with(words, place);
+        words = with(rt, words, place);
     }
     words
 }

@@ -1,54 +1,48 @@
 // Saving an image or a job: whole under its name, or not at all. It is written under a temporary name beside its own, and renamed at the end.
 ghost use Rattle.console.specs.Files as spec;
 
+use crate::errors::{EILSEQ, ENAMETOOLONG, ENOENT, named, number_of};
 use crate::file_errors::unwritten;
 use crate::options::Words;
 use crate::word;
 use image::rows::bytes_of;
 use screen::print;
+use std::fs;
+use std::fs::{File, OpenOptions};
+use std::io::{Error, Write};
 
-// The error of the call that has just failed, which is never 0: a write that takes nothing sets none.
-fn failure() -> i32 {
-    let error = os::errno();
-    if error == 0 {
-        return libc::EIO;
+// Gives a new file its bytes, sees that they have reached the disk, and closes it. The system's error, or 0.
+fn fill(mut file: File, bytes: &[u8]) -> i32 {
+    if let Err(error) = file.write_all(bytes) {
+        return number_of(error);
     }
-    error
-}
-
-// Gives a new file its bytes, and sees that they have reached the disk. The system's error, or 0.
-fn fill(fd: i32, bytes: &[u8]) -> i32 {
-    if !io::write_all(fd, bytes) {
-        let error = failure();
-        libc::close(fd);
-        return error;
-    }
-    if libc::fsync(fd) < 0 {
-        let error = failure();
-        libc::close(fd);
-        return error;
-    }
-    if libc::close(fd) < 0 {
-        return failure();
+    if let Err(error) = file.sync_all() {
+        return number_of(error);
     }
     0
 }
 
+// Makes a file that is not there yet.
+fn created(rt: &HostRuntime, name: &str) -> Result<File, Error> {
+    OpenOptions::new()
+        .write(true)
+        .create_new(true)
+        .open(rt, name)
+}
+
 // Writes the temporary file and gives it its name. Where that fails the temporary file goes. The system's error, or 0.
-fn write_beside(path: &[u8], temporary: &[u8], bytes: &[u8]) -> i32 {
-    let fd = os::create(temporary);
-    if fd < 0 {
-        return failure();
-    }
-    let error = fill(fd, bytes);
+fn write_beside(rt: &HostRuntime, path: &str, temporary: &str, bytes: &[u8]) -> i32 {
+    let error = match created(rt, temporary) {
+        Ok(file) => fill(file, bytes),
+        Err(error) => return number_of(error),
+    };
     if error != 0 {
-        os::unlink(temporary);
+        let _ = fs::remove_file(rt, temporary);
         return error;
     }
-    if os::rename(temporary, path) < 0 {
-        let error = failure();
-        os::unlink(temporary);
-        return error;
+    if let Err(error) = fs::rename(rt, temporary, path) {
+        let _ = fs::remove_file(rt, temporary);
+        return number_of(error);
     }
     0
 }
@@ -70,65 +64,75 @@ fn with_part(name: &mut [u8; 4096], n: usize) -> usize {
 }
 
 // The same, with the temporary name at the start of an array.
-fn write(path: &[u8], temporary: &[u8; 4096], length: usize, bytes: &[u8]) -> i32 {
+fn write(
+    rt: &HostRuntime,
+    path: &[u8],
+    temporary: &[u8; 4096],
+    length: usize,
+    bytes: &[u8],
+) -> i32 {
     let name: &[u8] = temporary;
     if path.len() == 0 {
-        return libc::ENOENT;
+        return ENOENT;
     }
     if length == 0 {
-        return libc::ENAMETOOLONG;
+        return ENAMETOOLONG;
     }
     if name.len() < length {
-        return libc::ENAMETOOLONG;
+        return ENAMETOOLONG;
     }
-    write_beside(path, &name[0..length], bytes)
+    let (Ok(path), Ok(beside)) = (named(path), named(&name[0..length])) else {
+        return EILSEQ;
+    };
+    write_beside(rt, path, beside, bytes)
 }
 
 // Saves bytes under the name at a place. False where it could not: one line has said so, and the command has ended.
-pub fn save_bytes(place: usize, bytes: &[u8]) -> bool
+pub fn save_bytes(rt: &HostRuntime, place: usize, bytes: &[u8]) -> bool
     ensures { spec.Told result }
 {
     let mut path = [0u8; 4096];
-    let n = os::arg(place, &mut path);
-    let long = os::errno();
-    if long != 0 {
-        unwritten(place, long);
-        return false;
-    }
+    let n = match word::put(rt, place, &mut path) {
+        Ok(n) => n,
+        Err(long) => {
+            unwritten(rt, place, long);
+            return false;
+        }
+    };
     let mut temporary = [0u8; 4096];
-    let m = os::arg(place, &mut temporary);
+    let m = word::read(rt, place, &mut temporary);
     let length = with_part(&mut temporary, m);
-    let error = write(&path[..n], &temporary, length, bytes);
+    let error = write(rt, &path[..n], &temporary, length, bytes);
     if error != 0 {
-        unwritten(place, error);
+        unwritten(rt, place, error);
         return false;
     }
     true
 }
 
 // The same of the image of rows.
-pub fn save(place: usize, rows: &[u32; 4096]) -> bool
+pub fn save(rt: &HostRuntime, place: usize, rows: &[u32; 4096]) -> bool
     ensures { spec.Told result }
 {
     let bytes = bytes_of(rows);
-    save_bytes(place, &bytes)
+    save_bytes(rt, place, &bytes)
 }
 
 // Saves the image of rows, where that is asked for. False where it could not.
-pub fn save_asked(words: Words, rows: &[u32; 4096]) -> bool
+pub fn save_asked(rt: &HostRuntime, words: Words, rows: &[u32; 4096]) -> bool
     ensures { spec.Told result }
 {
     if words.save == 0 {
         return true;
     }
-    save(words.save, rows)
+    save(rt, words.save, rows)
 }
 
 // "saved as cut.img", where that was asked for.
-pub fn saved_line(words: Words) {
+pub fn saved_line(rt: &HostRuntime, words: Words) {
     if words.save != 0 {
         print::text(b"saved as ");
-        word::print(words.save);
+        word::print(rt, words.save);
         print::end();
     }
 }

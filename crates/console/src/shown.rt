@@ -1,6 +1,8 @@
 // A word as it is shown: control characters are made visible, so that no name acts on the terminal or passes for a line of its own.
-use libc::STDOUT_FILENO;
 use screen::print;
+
+// The number of the file descriptor that a program writes to.
+const STANDARD_OUTPUT: i32 = 1;
 
 // Whether a byte is a control character, or ends one: after 0xc2 UTF-8 has those from 0x80 to 0x9f.
 fn is_control(before: u8, code: u8) -> bool {
@@ -10,7 +12,7 @@ fn is_control(before: u8, code: u8) -> bool {
 fn byte(before: u8, code: u8) {
     if is_control(before, code) {
         print::text(b"\\x");
-        io::print_hex(STDOUT_FILENO, code as u64, 2);
+        io::print_hex(STANDARD_OUTPUT, code as u64, 2);
         return;
     }
     let own = [code];

@@ -3,7 +3,7 @@ ghost use Rattle.std.specs.Prelude.{◌≡◌};
 ghost use Rattle.console.specs.Takes as spec;
 
 // What a word is to the command: a file that it reads, one that it writes, or something else.
-#[derive(Drop)]
+#[derive(Clone, Copy)]
 pub enum Role {
     Image,
     Job,
@@ -14,7 +14,7 @@ pub enum Role {
 
 // `save` is an option that names a file to write, `replace` one that lets it write over another, `ways` those of `read`, `rows` one that names
 // a text with a list of rows. Where a command takes one word, `second` is what standard input is to it.
-#[derive(Drop)]
+#[derive(Clone, Copy)]
 pub struct Takes {
     pub first: Role,
     pub second: Role,

@@ -1,8 +1,10 @@
 // How one line on a text begins that is not what it must be: the number of its line, and the word. What is wrong with it comes after that.
 use crate::file_errors::said;
-use libc::STDOUT_FILENO;
 use screen::print;
 use typed::words::{line_at, part, word};
+
+// The number of the file descriptor that a program writes to.
+const STANDARD_OUTPUT: i32 = 1;
 
 // No word that fits has a byte that is not to be seen, so each such byte is made visible.
 fn byte(code: u8) {
@@ -12,7 +14,7 @@ fn byte(code: u8) {
         return;
     }
     print::text(b"\\x");
-    io::print_hex(STDOUT_FILENO, code as u64, 2);
+    io::print_hex(STANDARD_OUTPUT, code as u64, 2);
 }
 
 // A word, or the beginning of one that is longer than any number has to be.
@@ -27,8 +29,8 @@ fn print_word(own: &[u8]) {
 }
 
 // "otp: 'card.txt': line 3: '0x0c0': ", of the line that begins at `start` and its n-th word, counted from 0.
-pub fn at(place: usize, text: &[u8], number: u32, start: usize, n: u32) {
-    said(place, b"line ");
+pub fn at(rt: &HostRuntime, place: usize, text: &[u8], number: u32, start: usize, n: u32) {
+    said(rt, place, b"line ");
     print::number(number);
     print::text(b": '");
     let line = line_at(text, start);

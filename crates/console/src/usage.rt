@@ -8,29 +8,30 @@ use crate::{ended, names, word};
 use screen::print;
 
 // A word that is not what it must be.
-pub fn wrong(place: usize, why: &[u8]) {
+pub fn wrong(rt: &HostRuntime, place: usize, why: &[u8]) {
     print::text(b"otp: '");
-    word::print(place);
+    word::print(rt, place);
     print::text(b"': ");
     print::line(why);
     ended::usage();
 }
 
-pub fn not_a_number(place: usize) {
+pub fn not_a_number(rt: &HostRuntime, place: usize) {
     wrong(
+        rt,
         place,
         b"not a number of 32 bits, decimal or hexadecimal after 0x",
     );
 }
 
-pub fn no_command() {
-    let place = word::command();
-    if os::arg_count() <= place {
+pub fn no_command(rt: &HostRuntime) {
+    let place = word::command(rt);
+    if word::arg_count(rt) <= place {
         print::line(b"otp: no command; ./otp help shows them");
         ended::usage();
         return;
     }
-    wrong(place, b"no such command; ./otp help shows them");
+    wrong(rt, place, b"no such command; ./otp help shows them");
 }
 
 // How many words follow no option.
@@ -98,41 +99,42 @@ fn stray_way(words: Words) -> usize {
 }
 
 // The place of an option that has no value, or 0: another option follows it, or nothing does.
-fn missing(words: Words) -> usize {
+fn missing(rt: &HostRuntime, words: Words) -> usize {
     if words.missing != 0 {
         return words.missing;
     }
     if words.awaited == NOTHING {
         return 0;
     }
-    before(os::arg_count())
+    before(word::arg_count(rt))
 }
 
 // A word that fits nowhere, and an option that the command does not take or that has no value.
-fn odd_word(place: usize, valueless: usize) -> bool {
+fn odd_word(rt: &HostRuntime, place: usize, valueless: usize) -> bool {
     if place != 0 {
         wrong(
+            rt,
             place,
             b"this word does not fit here; ./otp help shows what does",
         );
         return true;
     }
     if valueless != 0 {
-        wrong(valueless, b"its value is missing; ./otp help shows it");
+        wrong(rt, valueless, b"its value is missing; ./otp help shows it");
         return true;
     }
     false
 }
 
 // An option that is given twice, or without the one that it goes with.
-fn odd_option(words: Words, takes: Takes) -> bool {
+fn odd_option(rt: &HostRuntime, words: Words, takes: Takes) -> bool {
     if words.twice != 0 {
-        wrong(words.twice, b"given twice");
+        wrong(rt, words.twice, b"given twice");
         return true;
     }
     if words.replace != 0 && takes.save {
         if words.save == 0 {
-            wrong(words.replace, b"it goes with --save");
+            wrong(rt, words.replace, b"it goes with --save");
             return true;
         }
     }
@@ -140,48 +142,49 @@ fn odd_option(words: Words, takes: Takes) -> bool {
 }
 
 // Whether the words are those of the command. Where they are not, one line says so.
-fn fit(words: Words, takes: Takes) -> bool
+fn fit(rt: &HostRuntime, words: Words, takes: Takes) -> bool
     ensures { spec.Judged takes words result }
 {
     let own = count(words);
-    if odd_word(words.wrong, 0) {
+    if odd_word(rt, words.wrong, 0) {
         return false;
     }
     if takes.most < own {
-        odd_word(last(words), 0);
+        odd_word(rt, last(words), 0);
         return false;
     }
-    if odd_word(stray(words, takes), missing(words)) {
+    if odd_word(rt, stray(words, takes), missing(rt, words)) {
         return false;
     }
     if own < takes.least {
         wrong(
-            word::command(),
+            rt,
+            word::command(rt),
             b"a word is missing; ./otp help shows what it takes",
         );
         return false;
     }
-    if odd_option(words, takes) {
+    if odd_option(rt, words, takes) {
         return false;
     }
     true
 }
 
 // The words of the command, where it is to go on with them.
-#[derive(Drop)]
+#[derive(Clone, Copy)]
 pub enum Given {
     Words(Words),
     Ended,
 }
 
 // Takes the words. Where they do not fit, or where only the names of the files are asked for, the command has ended.
-pub fn asked(takes: Takes) -> Given
+pub fn asked(rt: &HostRuntime, takes: Takes) -> Given
     ensures { spec.Fits takes result }
 {
-    let words = taken();
-    let fits = fit(words, takes);
+    let words = taken(rt);
+    let fits = fit(rt, words, takes);
     if fits {
-        if word::naming() {
+        if word::naming(rt) {
             names::lines(words, takes);
             ended::answered(0);
             return Given::Ended;
