@@ -7,7 +7,7 @@ use answer::answers::Condition;
 use decode::reading::read_row;
 
 // Clean; mended, with the bit that was lost and is burnt; worn, which no burning mends; damaged, which does not decode; or not permitted.
-#[derive(Drop)]
+#[derive(Clone, Copy)]
 pub enum Found {
     Clean,
     Mended(u32),
@@ -41,6 +41,7 @@ fn found_read(held: u32, condition: Condition) -> Found
 }
 
 // What is found of a row that holds this, and that Secure may or may not write.
+#[tactic(auto, using(crate::proofs::Bits::low_read, crate::proofs::Decoding::not_decoded, crate::proofs::Decoding::decodes), unfolding(crate::specs::Finding::found_of))]
 pub fn found_of(may: bool, held: u32) -> Found
     ensures { result ≡ spec.found_of may held }
 {

@@ -10,6 +10,7 @@ use chip::pages::Page;
 use chip::slices::{MOST_HELD, row_at};
 
 // Whether a listed row is from 0xf40 up, or not above the row before it.
+#[tactic(auto, using(crate::proofs::Rising::high_stops, crate::proofs::Rising::low_stops, crate::proofs::Rising::order_next, crate::proofs::Rising::no_row), unfolding(crate::specs::Pass::out_of_order))]
 pub fn out_of_order(list: &[u32]) -> bool
     ensures { result ≡ spec.out_of_order 0 list.now }
 {

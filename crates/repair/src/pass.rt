@@ -37,6 +37,7 @@ fn repair_number(rows: &[u32], pages: &[bool], list: &[u32], report: &[u32]) -> 
 }
 
 // Looks at a row that Secure may or may not write, burns the bit that it lost, and counts it. The page of a row that gains none is named too.
+#[tactic(auto, using(crate::proofs::Bits::found_low))]
 fn repair_row(rows: &mut [u32], tallies: &mut [u16], row: u32, may: bool) -> Found
     ensures { let found = found_of may (row_at rows.old row) in
         (result ≡ found)
