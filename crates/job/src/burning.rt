@@ -12,7 +12,7 @@ use judge::verdicts::entry_written;
 use row::upward::burnt_upward;
 
 // How far a rehearsal came: the pulses spent, and the leading entries whose bits all stand.
-#[derive(Drop)]
+#[derive(Clone, Copy)]
 pub struct Reached {
     pub pulses: u32,
     pub place: u32,

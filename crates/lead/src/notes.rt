@@ -9,7 +9,7 @@ pub type Part = [u8; 8];
 
 // What is kept between two chunks: the bytes counted, 3,080 for any more; the lowest row that may come next; the entry begun.
 #[repr(C)]
-#[derive(Drop)]
+#[derive(Clone, Copy)]
 pub struct Note {
     pub counted: u32,
     pub least: u32,

@@ -7,7 +7,7 @@ use crate::notes::{Note, Part, begun_in, ended_in, start_of};
 use form::entries::{Entry, byte_at, count_of, entry_at};
 
 // An entry begun: its index, how many of its bytes came before, and these.
-#[derive(Drop)]
+#[derive(Clone, Copy)]
 pub struct Begun {
     pub index: u32,
     pub bytes: u32,
@@ -108,6 +108,7 @@ pub(crate) fn part_so_far(area: &[u8], begun: Begun, at: u32, bytes: u32) -> Par
 }
 
 // One above the row of an entry.
+#[tactic(auto, unfolding(form::specs::Entries::entry_at))]
 pub(crate) fn above_so_far(area: &[u8], begun: Begun, i: u32) -> u32
     requires { spec.Fits area.now begun × (i < 512) }
     ensures { result ≡ (entry_at (spec.over area.now begun) i).row + 1 }

@@ -12,7 +12,7 @@ use form::entries::count_of;
 use form::faults::fault_number;
 
 // What a chunk is answered, and the note after it.
-#[derive(Drop)]
+#[derive(Clone, Copy)]
 pub struct Taken {
     pub answer: Answer,
     pub note: Note,
