@@ -56,4 +56,3 @@ returns c =
     let s = c.args in
     let l = c.loop-i in
     sym (l.invariant ∙ none_left (over s.area.now s.begun) s.last l.i s.version l.least (omega arith))
-
