@@ -8,6 +8,7 @@ use chip::state::{Outcome, State, refusal};
 use job::jobs::{MOST_PULSES, rehearse};
 
 // Runs as many area bytes as the note counts as a job.
+#[tactic(auto, using(crate::proofs::Ends::not_whole_lem, crate::proofs::Ends::no_room_lem, crate::proofs::Ends::too_long, crate::proofs::Ends::runs, job::proofs::Whole::whole_job))]
 pub fn end_job(rows: &mut [u32], state: State, area: &[u8], note: Note) -> Outcome
     ensures { (result ≡ (spec.end_job rows.old state area.now note).outcome)
         × (rows.new ≡ (spec.end_job rows.old state area.now note).rows) }

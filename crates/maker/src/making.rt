@@ -73,6 +73,7 @@ fn put_changes(present: &[u32], wanted: &[u32], out: &mut [u8])
 }
 
 // Makes the job that burns a present image into a wanted one. Its length is the value.
+#[tactic(auto, using(crate::proofs::Made::no_present, crate::proofs::Made::no_wanted, crate::proofs::Made::both_whole, crate::proofs::Made::make_refused, crate::proofs::Made::make_done))]
 pub fn make_job(present: &[u32], wanted: &[u32], out: &mut [u8]) -> Answer
     ensures { (result ≡ (spec.make_job present.now wanted.now out.old).answer)
         × (out.new ≡ (spec.make_job present.now wanted.now out.old).out) }
