@@ -13,14 +13,14 @@ use permit::keys::matches;
 use screen::print;
 
 // Whether there is a chip to go on with. Where there is none, the command has ended.
-#[derive(Drop)]
+#[derive(Clone, Copy)]
 pub enum Start {
     Ready,
     Ended,
 }
 
 // A state holds arrays, which no enum does here: so it stands beside the answer, all zeros where the command has ended.
-#[derive(Drop)]
+#[derive(Clone, Copy)]
 pub struct Begun {
     pub start: Start,
     pub state: State,
@@ -68,17 +68,17 @@ fn with_key(rows: &[u32], key: &[u8; 16]) -> Begun
 }
 
 // Loads the image that the first word names into `rows`, resets it and enters the key.
-pub fn begin(words: Words, rows: &mut [u32; 4096]) -> Begun
+pub fn begin(rt: &HostRuntime, words: Words, rows: &mut [u32; 4096]) -> Begun
     ensures { spec.Begins rows.new result }
 {
     let mut key = [0u8; 16];
     if words.key != 0 {
-        if !word::key(words.key, &mut key) {
-            usage::wrong(words.key, b"not a key, which is 32 hexadecimal digits");
+        if !word::key(rt, words.key, &mut key) {
+            usage::wrong(rt, words.key, b"not a key, which is 32 hexadecimal digits");
             return not_begun();
         }
     }
-    if !files::load_image(words.first, rows) {
+    if !files::load_image(rt, words.first, rows) {
         return not_begun();
     }
     if words.key == 0 {

@@ -8,7 +8,7 @@ use latch::locks::{level_of, voted_byte};
 use screen::print;
 
 // What a reset latches of a low lock row.
-#[derive(Drop)]
+#[derive(Clone, Copy)]
 struct Low {
     writekey: u32,
     readkey: u32,
@@ -16,7 +16,7 @@ struct Low {
 }
 
 // What a reset latches of a high lock row.
-#[derive(Drop)]
+#[derive(Clone, Copy)]
 struct High {
     secure: u8,
     nonsecure: u8,

@@ -8,7 +8,7 @@ use console::{usage, word};
 use typed::numbers::Number;
 
 // The rows from `first` on, as far as the one before `past`; where `held`, only those of them that hold bits.
-#[derive(Drop)]
+#[derive(Clone, Copy)]
 pub struct Range {
     pub first: u32,
     pub past: u32,
@@ -16,7 +16,7 @@ pub struct Range {
 }
 
 // The rows that the words ask for, or that a word names none: one line has said so, and the command has ended.
-#[derive(Drop)]
+#[derive(Clone, Copy)]
 pub enum Rows {
     Range(Range),
     Ended,
@@ -33,20 +33,20 @@ pub fn held_before(past: u32) -> Range
     }
 }
 
-fn no_such_row(place: usize) {
-    usage::wrong(place, b"no such row; the rows are 0 to 4095, 0xfff");
+fn no_such_row(rt: &HostRuntime, place: usize) {
+    usage::wrong(rt, place, b"no such row; the rows are 0 to 4095, 0xfff");
 }
 
 // All rows from one to another.
-fn between(words: Words, first: u32, last: u32) -> Rows
+fn between(rt: &HostRuntime, words: Words, first: u32, last: u32) -> Rows
     ensures { spec.Named result }
 {
     if Page::LAST_ROW < last {
-        no_such_row(words.third);
+        no_such_row(rt, words.third);
         return Rows::Ended;
     }
     if last < first {
-        usage::wrong(words.third, b"it comes before the first row asked for");
+        usage::wrong(rt, words.third, b"it comes before the first row asked for");
         return Rows::Ended;
     }
     let past = last + 1;
@@ -59,48 +59,49 @@ fn between(words: Words, first: u32, last: u32) -> Rows
 }
 
 // From a row to the one that the third word names, or that row alone.
-fn from(words: Words, first: u32) -> Rows
+fn from(rt: &HostRuntime, words: Words, first: u32) -> Rows
     ensures { spec.Named result }
 {
     if Page::LAST_ROW < first {
-        no_such_row(words.second);
+        no_such_row(rt, words.second);
         return Rows::Ended;
     }
     if words.third == 0 {
-        return between(words, first, first);
+        return between(rt, words, first, first);
     }
-    match word::number(words.third) {
-        Number::Is(last) => between(words, first, last),
+    match word::number(rt, words.third) {
+        Number::Is(last) => between(rt, words, first, last),
         Number::Not => {
-            usage::not_a_number(words.third);
+            usage::not_a_number(rt, words.third);
             Rows::Ended
         }
     }
 }
 
 // From the row that the second word names to the one that the third names, or the one row alone.
-pub fn named(words: Words) -> Rows
+pub fn named(rt: &HostRuntime, words: Words) -> Rows
     ensures { spec.Named result }
 {
-    match word::number(words.second) {
-        Number::Is(first) => from(words, first),
+    match word::number(rt, words.second) {
+        Number::Is(first) => from(rt, words, first),
         Number::Not => {
-            usage::not_a_number(words.second);
+            usage::not_a_number(rt, words.second);
             Rows::Ended
         }
     }
 }
 
 // The same, where one row alone is not asked for: both words or none.
-pub fn from_first_to_last(words: Words) -> Rows
+pub fn from_first_to_last(rt: &HostRuntime, words: Words) -> Rows
     ensures { spec.Named result }
 {
     if words.third == 0 {
         usage::wrong(
+            rt,
             words.second,
             b"FIRST and LAST go together, and LAST is missing",
         );
         return Rows::Ended;
     }
-    named(words)
+    named(rt, words)
 }
