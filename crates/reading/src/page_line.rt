@@ -10,7 +10,7 @@ use wording::rights::{Rights, rights_of};
 
 // What the screen says of a page. Of each caller: 0 may do nothing, 1 read, 2 read and write, 3 read, and write as the levels of each
 // row's own page allow.
-#[derive(Drop)]
+#[derive(Clone, Copy)]
 pub struct Line {
     pub secure: u32,
     pub nonsecure: u32,

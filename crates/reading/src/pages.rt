@@ -13,7 +13,7 @@ use screen::print;
 use wording::burnt;
 
 // The line that was written last, and the pages after it that are the same.
-#[derive(Drop)]
+#[derive(Clone, Copy)]
 struct Folded {
     line: Line,
     page: u32,
@@ -132,9 +132,9 @@ fn show(state: State) {
     key_lines(state);
 }
 
-fn of_words(words: Words) {
+fn of_words(rt: &HostRuntime, words: Words) {
     let mut rows = [0u32; 4096];
-    let begun = begin(words, &mut rows);
+    let begun = begin(rt, words, &mut rows);
     let start = begun.start;
     let state = begun.state;
     if let Start::Ready = start {
@@ -143,9 +143,9 @@ fn of_words(words: Words) {
     }
 }
 
-pub fn run() {
+pub fn run(rt: &HostRuntime) {
     let takes = Takes::on_image(Role::Other, 1, 1);
-    if let Given::Words(words) = asked(takes) {
-        of_words(words);
+    if let Given::Words(words) = asked(rt, takes) {
+        of_words(rt, words);
     }
 }

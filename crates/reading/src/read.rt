@@ -20,7 +20,7 @@ use wording::rights::rights_of;
 use wording::{callers, condition, levels, owner, refusals};
 
 // How the row is read: with ECC, as it is, or by a vote of so many rows.
-#[derive(Drop)]
+#[derive(Clone, Copy)]
 enum Way {
     Ecc,
     Raw,
@@ -173,9 +173,9 @@ fn answered(rows: &[u32; 4096], state: State, caller: u32, row: u32, way: Way) -
     answer.number
 }
 
-fn of_row(words: Words, caller: u32, row: u32, way: Way) {
+fn of_row(rt: &HostRuntime, words: Words, caller: u32, row: u32, way: Way) {
     let mut rows = [0u32; 4096];
-    let begun = begin(words, &mut rows);
+    let begun = begin(rt, words, &mut rows);
     let start = begun.start;
     let state = begun.state;
     if let Start::Ready = start {
@@ -185,37 +185,38 @@ fn of_row(words: Words, caller: u32, row: u32, way: Way) {
 }
 
 // The way that the options ask for.
-fn by_way(words: Words, caller: u32, row: u32) {
+fn by_way(rt: &HostRuntime, words: Words, caller: u32, row: u32) {
     if words.vote == 0 {
         if words.raw == 0 {
-            of_row(words, caller, row, Way::Ecc);
+            of_row(rt, words, caller, row, Way::Ecc);
             return;
         }
-        of_row(words, caller, row, Way::Raw);
+        of_row(rt, words, caller, row, Way::Raw);
         return;
     }
     if words.raw != 0 {
-        usage::wrong(words.raw, b"a read is raw or a vote, not both");
+        usage::wrong(rt, words.raw, b"a read is raw or a vote, not both");
         return;
     }
-    match word::number(words.vote) {
-        Number::Is(count) => of_row(words, caller, row, Way::Vote(count)),
-        Number::Not => usage::not_a_number(words.vote),
+    match word::number(rt, words.vote) {
+        Number::Is(count) => of_row(rt, words, caller, row, Way::Vote(count)),
+        Number::Not => usage::not_a_number(rt, words.vote),
     }
 }
 
 // The caller that a word names. Where it names none, one line says so.
-fn caller_named(place: usize) -> Number {
-    if word::is(place, b"secure") {
+fn caller_named(rt: &HostRuntime, place: usize) -> Number {
+    if word::is(rt, place, b"secure") {
         return Number::Is(SECURE);
     }
-    if word::is(place, b"non-secure") {
+    if word::is(rt, place, b"non-secure") {
         return Number::Is(NONSECURE);
     }
-    if word::is(place, b"bootloader") {
+    if word::is(rt, place, b"bootloader") {
         return Number::Is(BOOTLOADER);
     }
     usage::wrong(
+        rt,
         place,
         b"no such caller; the callers are secure, non-secure and bootloader",
     );
@@ -223,7 +224,7 @@ fn caller_named(place: usize) -> Number {
 }
 
 // The caller that the words ask for: Secure where they name none.
-fn caller_asked(words: Words) -> Number {
+fn caller_asked(rt: &HostRuntime, words: Words) -> Number {
     if words.caller == 0 {
         if words.nonsecure == 0 {
             return Number::Is(SECURE);
@@ -231,28 +232,32 @@ fn caller_asked(words: Words) -> Number {
         return Number::Is(NONSECURE);
     }
     if words.nonsecure != 0 {
-        usage::wrong(words.nonsecure, b"a read has one caller, and --as names it");
+        usage::wrong(
+            rt,
+            words.nonsecure,
+            b"a read has one caller, and --as names it",
+        );
         return Number::Not;
     }
-    caller_named(words.caller)
+    caller_named(rt, words.caller)
 }
 
-fn by_caller(words: Words, row: u32) {
-    if let Number::Is(caller) = caller_asked(words) {
-        by_way(words, caller, row);
+fn by_caller(rt: &HostRuntime, words: Words, row: u32) {
+    if let Number::Is(caller) = caller_asked(rt, words) {
+        by_way(rt, words, caller, row);
     }
 }
 
-fn of_words(words: Words) {
-    match word::number(words.second) {
-        Number::Is(row) => by_caller(words, row),
-        Number::Not => usage::not_a_number(words.second),
+fn of_words(rt: &HostRuntime, words: Words) {
+    match word::number(rt, words.second) {
+        Number::Is(row) => by_caller(rt, words, row),
+        Number::Not => usage::not_a_number(rt, words.second),
     }
 }
 
-pub fn run() {
+pub fn run(rt: &HostRuntime) {
     let takes = Takes::on_image(Role::Other, 2, 2).with_ways();
-    if let Given::Words(words) = asked(takes) {
-        of_words(words);
+    if let Given::Words(words) = asked(rt, takes) {
+        of_words(rt, words);
     }
 }
