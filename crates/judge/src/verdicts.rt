@@ -56,6 +56,7 @@ fn permit_for(row: u32, before: Permit, state: State) -> Permit
 
 // The number of an entry whose row may be written, or may not. `row_number` of access judges 7, then 3, too: by one function for both a
 // job of 512 entries took a twelfth more instructions on the Cortex-M33, so the two tests stand here once more.
+#[tactic(auto, using(crate::proofs::Fitting::entry_nine), unfolding(crate::specs::Verdicts::entry_rungs))]
 fn entry_number(rows: &[u32], may: bool, entry: Entry) -> u32
     ensures { result ≡ first_of (spec.entry_rungs rows.now may 0 entry) }
 {

@@ -213,6 +213,7 @@ fn latched(rows: &[u32]) -> State
 }
 
 // Latches what the rows hold.
+#[tactic(auto, unfolding(crate::specs::Resetting::reset))]
 pub fn reset(rows: &[u32], state: State) -> Outcome
     ensures { result ≡ spec.reset rows.now state }
 {

@@ -1,13 +1,14 @@
 -- `latch::resetting::latched_key` meets its contract: one word more is that of its row, and a row that does not decode is remembered.
 -- Assumes nothing.
 use borrow.Author.Rules.{rules}
-use mathlib.Core.Path.{◌≡◌, refl, sym, ap, ◌∙◌, subst}
+use mathlib.Core.Path.{◌≡◌, refl, ap, ◌∙◌, subst}
 use Prim.Native.Nat.{ℕ, ◌+◌, ◌%◌}
 use native.Mathlib.Omega.{arith}
 use lib.ListN.{take, set, length-set}
 use native.Mathlib.Nat.{mod-eq_of_lt}
 use Rattle.permit.specs.Keys.{key_row}
 use Rattle.answer.specs.declared.answers.Answer.{Answer}
+use Rattle.decode.specs.Reading.{read_row}
 use Rattle.decode.proofs.Syndromes.{read_lt}
 use Rattle.chip.specs.Lists.{listed}
 use Rattle.chip.specs.Slices.{row_at}
@@ -15,7 +16,6 @@ use Rattle.chip.proofs.Lists.{listed_more, listed_all}
 use Rattle.latch.specs.Resetting.{word_of, all_decode}
 use Rattle.latch.proofs.Decoding.{decodes, decodes_not}
 use Rattle.latch.proofs.resetting.latched_key.Goals as goal
-use Rattle.latch.proofs.resetting.latched_key.Goals.{then-answer-ne0, else-answer-ne0}
 
 pub loop-i-init : goal.loop-i-init
 unfolding listed all_decode
@@ -27,18 +27,15 @@ loop-i-preserved c =
     let first : ℕ = key_row c.args.k in
     let l = c.loop-i in
     let answer = c.read_row-answer.ensures in
+    let number : c.read_row-answer.result.number ≡ (read_row (row_at rows (first + l.i))).number =
+    ap (λ (a : Answer). a.number) answer in
     let word : c.read_row-answer.result.value % 65536 ≡ word_of (row_at rows (first + l.i)) =
     ap (λ (a : Answer). a.value % 65536) answer ∙ mod-eq_of_lt (read_lt (row_at rows (first + l.i))) in (
       omega arith,
       simp length-set l.invariant.1,
       ap (λ (n : ℕ). take (l.i + 1) (set l.words l.i n)) word
           ∙ listed_more (λ n. word_of (row_at rows (first + n))) l.words l.i (omega arith) l.invariant.2,
-      elim c.if-answer-ne0.branch [
-        | then-answer-ne0 w ↦
-            w.whole-is ∙ sym (decodes_not rows first l.i (λ e. w.if-answer-ne0.true (ap (λ (a : Answer). a.number) answer ∙ e)))
-        | else-answer-ne0 w ↦
-            w.whole-is ∙ l.invariant.3 ∙ sym (decodes rows first l.i (sym (ap (λ (a : Answer). a.number) answer) ∙ w.if-answer-ne0.false))
-      ],
+      search (rules, l.invariant, number, decodes rows first l.i, decodes_not rows first l.i),
     )
 
 pub returns : goal.returns
