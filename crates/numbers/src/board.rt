@@ -11,7 +11,7 @@ pub const ROWS: usize = 4097;
 // A call is lent the first `entries` of the rows. `state` is what the chip has. `hand` is made by
 // hand: the next call is made on it, and a reset must latch it. `words` and `bytes` are a key, as
 // latched and as entered.
-#[derive(Drop)]
+#[derive(Clone, Copy)]
 pub struct Board {
     pub entries: u32,
     pub state: State,

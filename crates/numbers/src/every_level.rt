@@ -80,7 +80,7 @@ fn letter(read: u32, write: u32) -> u8 {
 }
 
 // What must be and what is, and at how many of the 27 levels they are the same.
-#[derive(Drop)]
+#[derive(Clone, Copy)]
 struct Both {
     must: Line,
     is: Line,

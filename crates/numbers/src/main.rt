@@ -1,6 +1,8 @@
 // Drives each of the nine calls through every number that it can give, against document 01, and by each caller, domain and level.
 // The cases, each with what must be, are the program's input: the file stdin beside src. After a
 // write all rows and the whole state are compared, and after a call on the state all of it.
+#![tactic(auto)]
+
 mod answers;
 mod board;
 mod every_level;
@@ -18,8 +20,10 @@ mod states;
 mod tallies;
 mod text;
 
-use libc::STDIN_FILENO;
 use screen::tally;
+
+// The number of the file descriptor that a program reads from.
+const STANDARD_INPUT: i32 = 0;
 
 fn legend() {
     print::text(
@@ -43,7 +47,7 @@ and state:
 fn main() {
     legend();
     let mut input = [0u8; 131072];
-    let count = io::read_full(STDIN_FILENO, &mut input);
+    let count = io::read_full(STANDARD_INPUT, &mut input);
     let played = scene::play(&input[..count]);
     if count == input.len() {
         print::text(b"the input may be longer than what was read\n");

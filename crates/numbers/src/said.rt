@@ -3,7 +3,7 @@
 // What must be is a number, a value, the place of a repaired bit, pulses, what is left, which is the
 // row that a write leaves or the level that an advance leaves, the polarity of a row that is read
 // and whether its bits 23 and 22 disagree, and the tally that a write leaves its page.
-#[derive(Drop)]
+#[derive(Clone, Copy)]
 pub struct Said {
     pub first: u32,
     pub second: u32,
@@ -30,7 +30,7 @@ pub fn or_zero(number: u32) -> u32 {
 }
 
 // The numbers as far as they are read, in the order above.
-#[derive(Drop)]
+#[derive(Clone, Copy)]
 struct Scan {
     numbers: [u32; 12],
     at: usize,
