@@ -9,7 +9,6 @@ use borrow.Author.Tests.{eqb-true, eqb-false}
 use lib.Bits.{bit_and, bit_or, bit_xor, differ, and_comm, or_disjoint, xor_disjoint}
 use lib.Count.{ones_in}
 use lib.Dec.{eqb, eqb→eq}
-use Rattle.answer.specs.Answers.{found}
 use Rattle.std.specs.Prelude.{if◌then◌else◌}
 use Rattle.answer.specs.declared.answers.Answer.{Answer}
 use Rattle.row.specs.Code.{bit_at, set_bits, code}
