@@ -13,7 +13,7 @@ use reader::numbers::{end_number, found_entry, found_number};
 
 // `otp_answer` of the header.
 #[repr(C)]
-#[derive(Drop)]
+#[derive(Clone, Copy)]
 pub struct FlatAnswer {
     // 0 is done, any other is a refusal
     pub number: u32,
@@ -35,7 +35,7 @@ pub struct FlatAnswer {
 
 // `otp_outcome` of the header.
 #[repr(C)]
-#[derive(Drop)]
+#[derive(Clone, Copy)]
 pub struct FlatOutcome {
     // what the call answers
     pub answer: FlatAnswer,
@@ -45,7 +45,7 @@ pub struct FlatOutcome {
 
 // `otp_taken` of the header.
 #[repr(C)]
-#[derive(Drop)]
+#[derive(Clone, Copy)]
 pub struct FlatTaken {
     // what the chunk is answered: its value is the early word
     pub answer: FlatAnswer,
@@ -55,7 +55,7 @@ pub struct FlatTaken {
 
 // `otp_entry` of the header.
 #[repr(C)]
-#[derive(Drop)]
+#[derive(Clone, Copy)]
 pub struct FlatEntry {
     // the place after the call
     pub at: usize,
