@@ -3,7 +3,7 @@ ghost use Rattle.std.specs.Prelude.{◌≡◌};
 ghost use Rattle.splash.specs.Cards as spec;
 
 // What a card says: its version, the width and the height of the logo, and the bytes in a line.
-#[derive(Drop)]
+#[derive(Clone, Copy)]
 pub struct Card {
     pub version: u32,
     pub width: u32,

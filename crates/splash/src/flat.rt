@@ -7,7 +7,7 @@ use crate::reading::CardRead;
 
 // `otp_card` of the header.
 #[repr(C)]
-#[derive(Drop)]
+#[derive(Clone, Copy)]
 pub struct FlatCard {
     // 0 is done, any other is a refusal
     pub number: u32,

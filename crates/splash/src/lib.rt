@@ -1,5 +1,7 @@
 // The splash card, a second library above the first (request 2026-12): what the card's rows say, read as Non-secure, and the job that burns a
 // card. include/splash.h declares its two calls for C, which libsplash.a exports.
+#![tactic(auto)]
+
 pub mod calls;
 pub mod cards;
 pub mod flat;

@@ -18,7 +18,7 @@ use decode::reading::read_row;
 use permit::permission::may_read;
 
 // What a card read answers: a card, or none with its number.
-#[derive(Drop)]
+#[derive(Clone, Copy)]
 pub enum CardRead {
     Card(Card),
     None(u32),
