@@ -1,19 +1,18 @@
 -- The changes run on the present image: which number they give, which rows they leave, and for how many pulses.
 -- Assumes nothing.
-use mathlib.Core.Bool.{Bool, true, false, not}
+use mathlib.Core.Bool.{Bool, true, false}
 use mathlib.Core.List.{List, [], ◌∷◌, ◌++◌}
 use mathlib.Core.Logic.{◌⊎◌, inl, inr}
 use mathlib.Core.Path.{◌≡◌, refl, sym, ap, ap₂, subst, ◌∙◌}
 use Prim.Native.Nat.{ℕ, suc, ◌+◌, ◌≤◌, ◌<◌, min, max}
 use native.Mathlib.Omega.{arith}
 use borrow.Author.Tests.{le-ltb, eqb-true, eqb-false, ltb-true, ltb-false}
-use lib.Bits.{bit_and, bit_or, bit_xor, differ}
+use lib.Bits.{bit_and, bit_or, differ}
 use lib.Dec.{eqb, ltb}
 use lib.ListN.{length, length-set, set}
 use lib.Seq.{ext_get_or, get_or-set_same, get_or-set_other}
-use Rattle.std.specs.Prelude.{if◌then◌else◌}
 use Rattle.answer.specs.Rungs.{first_of}
-use Rattle.row.specs.Code.{bit_at, set_bits, flipped, distance}
+use Rattle.row.specs.Code.{bit_at, set_bits, distance}
 use Rattle.row.specs.Writing.{pulses}
 use Rattle.row.proofs.Counts.{ones_same}
 use Rattle.row.proofs.Digits.{equal2}

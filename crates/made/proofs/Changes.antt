@@ -1,13 +1,12 @@
 -- The changes between two images as a list: each entry a row that differs, in order, and none left out.
 -- Assumes nothing.
-use mathlib.Core.Bool.{Bool, true, false, not, ◌&&◌}
+use mathlib.Core.Bool.{Bool, true, false}
 use mathlib.Core.List.{List, [], ◌∷◌, ◌++◌, append-nil}
 use mathlib.Core.Path.{◌≡◌, refl, sym, subst}
 use Prim.Native.Nat.{ℕ, zero, suc, ◌+◌, ◌≤◌, ◌<◌}
 use native.Mathlib.Omega.{arith}
 use borrow.Author.Tests.{eqb-true, eqb-false, ltb-true, ltb-false}
 use lib.Dec.{eqb, ltb}
-use Rattle.std.specs.Prelude.{if◌then◌else◌}
 use Rattle.chip.specs.Slices.{row_at}
 use Rattle.form.specs.declared.entries.Entry.{Entry}
 use Rattle.maker.specs.Images.{change_at, changes_below}

@@ -1,7 +1,7 @@
 -- The changes by their index: what each entry is, and which entry a row has.
 -- Assumes nothing.
 use mathlib.Core.Bool.{Bool, true, false}
-use mathlib.Core.List.{List, [], ◌∷◌}
+use mathlib.Core.List.{List, ◌∷◌}
 use mathlib.Core.Path.{◌≡◌, refl, sym, ap, ◌∙◌}
 use Prim.Native.Nat.{ℕ, zero, suc, ◌+◌, ◌≤◌, ◌<◌}
 use native.Mathlib.Nat.{add-zero}
@@ -9,7 +9,6 @@ use native.Mathlib.Omega.{arith}
 use borrow.Author.Tests.{eqb-true, eqb-false, ltb-true, ltb-false}
 use lib.Dec.{eqb, ltb}
 use lib.ListN.{length, get_or}
-use Rattle.chip.specs.Slices.{row_at}
 use Rattle.form.specs.Entries.{entry_at, entries_from}
 use Rattle.form.specs.declared.entries.Entry.{Entry}
 use Rattle.made.specs.Refusing.{Differs}

@@ -1,18 +1,17 @@
 -- The job that was made, run on the present image: it gives the wanted one, after any cuts too, and no shorter job does.
 -- Assumes nothing.
 use mathlib.Core.Bool.{Bool, true, false, true≢false}
-use mathlib.Core.List.{List, []}
+use mathlib.Core.List.{List}
 use mathlib.Core.Logic.{◌⊎◌, inl, inr, ◌↔◌}
 use mathlib.Core.Path.{◌≡◌, refl, sym, ap, subst, ◌∙◌}
-use Prim.Native.Nat.{ℕ, ◌+◌, ◌≤◌, ◌<◌}
+use Prim.Native.Nat.{ℕ, ◌≤◌, ◌<◌}
 use native.Mathlib.Nat.{zero-add}
 use native.Mathlib.Omega.{arith}
 use borrow.Author.Tests.{eq-eqb, ltb-true, ltb-false}
-use lib.Dec.{eqb, ltb}
+use lib.Dec.{ltb}
 use lib.ListN.{length, get_or, take}
 use Rattle.answer.specs.Rungs.{first_of}
 use Rattle.answer.proofs.Choices.{own_number}
-use Rattle.chip.specs.Slices.{row_at}
 use Rattle.chip.specs.declared.state.State.{State}
 use Rattle.permit.specs.Permission.{may_write}
 use Rattle.burn.specs.Burning.{Left, burnt, kept}
@@ -26,10 +25,10 @@ use Rattle.job.specs.Jobs.{run_job}
 use Rattle.job.proofs.Whole.{length_entries}
 use Rattle.maker.specs.Images.{changes}
 use Rattle.maker.specs.Making.{job_bytes}
-use Rattle.laws.specs.Calls.{Chip, a_job, perform}
+use Rattle.laws.specs.Calls.{a_job, perform}
 use Rattle.laws.specs.Promises.{Burns}
 use Rattle.laws.specs.Writes.{newly_set}
-use Rattle.cuts.specs.Cuts.{Keyed, ready, Bytes, accepted_on, Cuts}
+use Rattle.cuts.specs.Cuts.{ready, Bytes}
 use Rattle.cuts.proofs.Acceptance.{ran_number, ran}
 use Rattle.cuts.proofs.CutPower.{cut_power}
 use Rattle.cuts.proofs.Pulses.{pulses_are_new_bits}

@@ -1,15 +1,12 @@
 -- The job that is made: its head and its entries are read back, and nothing is wrong with it.
 -- Assumes nothing.
-use mathlib.Core.Bool.{Bool, true, false}
-use mathlib.Core.List.{List, [], ◌∷◌}
-use mathlib.Core.Path.{◌≡◌, refl, sym, ap, subst, ◌∙◌}
-use Prim.Native.Nat.{ℕ, ◌+◌, ◌*◌, ◌≤◌, ◌<◌}
+use mathlib.Core.List.{List}
+use mathlib.Core.Path.{◌≡◌, refl, sym, ap, ◌∙◌}
+use Prim.Native.Nat.{ℕ, ◌+◌, ◌≤◌}
 use native.Mathlib.Omega.{arith}
-use borrow.Author.Tests.{le-ltb, lt-leb, eq-eqb}
-use lib.Dec.{eqb, ltb, leb}
+use borrow.Author.Tests.{le-ltb, lt-leb}
 use lib.ListN.{length, take}
 use lib.Seq.{length-take-le}
-use Rattle.std.specs.Prelude.{if◌then◌else◌}
 use Rattle.chip.specs.Slices.{row_at}
 use Rattle.form.specs.Entries.{version_of, count_of, entries_of}
 use Rattle.form.specs.Faults.{fault_number, head_fault, form_faults, order_faults, fault_under, rule_of, fault_of}
