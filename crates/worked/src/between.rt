@@ -5,7 +5,7 @@ use crate::write_lines::{burnt, ecc_line};
 use screen::tally::Tally;
 
 // A row between the old one and the burnt one, and the pulses that it still takes.
-#[derive(Drop)]
+#[derive(Clone, Copy)]
 struct Between(u32, u32);
 
 // Every row between 0 and the plain row of 1, 0x230001.

@@ -16,7 +16,7 @@ pub fn ready(rows: &[u32]) -> State {
 }
 
 // The number, the place and the pulses that a job must answer.
-#[derive(Drop)]
+#[derive(Clone, Copy)]
 pub struct Must(pub u32, pub u32, pub u32);
 
 fn triple(number: u32, place: u32, pulses: u32) {

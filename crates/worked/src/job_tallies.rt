@@ -14,7 +14,7 @@ const JOB: [u8; 31] = [
 ];
 
 // The tallies of pages 3, 4 and 9, which the job names, and of page 10, which it does not.
-#[derive(Drop)]
+#[derive(Clone, Copy)]
 struct Four(u16, u16, u16, u16);
 
 // The tallies with these four, and 9 on each other page.

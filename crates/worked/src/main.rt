@@ -1,6 +1,8 @@
 // Runs document 01's worked rows and jobs, and further vectors, against the code of `row` and `job`.
 // Each line has what must be, what is, and the verdict. What must be is written out: from document
 // 01 and the requests, or worked out from its masks apart from `row`.
+#![tactic(auto)]
+
 mod between;
 mod codes;
 mod damage;

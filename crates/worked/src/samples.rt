@@ -2,7 +2,7 @@
 // Their rows were worked out from document 01's masks apart from `row`.
 
 // A value, its plain row and its inverted row.
-#[derive(Drop)]
+#[derive(Clone, Copy)]
 pub struct Sample(pub u16, pub u32, pub u32);
 
 pub const SAMPLES: [Sample; 40] = [
