@@ -21,7 +21,7 @@
  * the second image, bytes which it was lent to read, a list too, or bytes behind those that it was lent, ends the program with one line and
  * 1, and so does a request that is none of these.
  *
- *     rt staticlib otp && rt staticlib splash
+ *     tools/staticlib otp splash
  *     cc -std=c11 -O2 -Iinclude compare/driver.c target/staticlib/libotp.a target/staticlib/libsplash.a -o target/driver
  */
 #include "splash.h"

@@ -7,7 +7,7 @@
  * bytes at a time. On a fifth a job is made of the rows as they are and as they are to be, and is read and run. On a sixth old rows are
  * repaired. It prints what happens, and exits 1 where that is not what document 01 and its requests say.
  *
- *     rt staticlib otp
+ *     tools/staticlib otp
  *     cc -std=c11 -Iinclude examples/desk.c target/staticlib/libotp.a -o target/desk
  */
 #include "otp.h"

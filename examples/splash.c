@@ -5,8 +5,7 @@
  * buffer must stay as it was. Then it writes a card, runs its job on a blank chip, and reads the card back. It prints what happens, a line for
  * each image, and exits 1 where that is not as it must be.
  *
- *     rt staticlib otp
- *     rt staticlib splash
+ *     tools/staticlib otp splash
  *     cc -std=c11 -Iinclude examples/splash.c target/staticlib/libsplash.a target/staticlib/libotp.a -o target/splash
  *     target/splash examples/scrap.img examples/story.img
  */

@@ -9,7 +9,7 @@
  * "Full scope and exact rules". The proof does not cover this header. It asserts the layout of each struct at compile time, and
  * examples/desk.c calls the library by it. It is C11 and C++17.
  *
- *     rt staticlib otp                                          makes target/staticlib/libotp.a, for x86-64 Linux
+ *     tools/staticlib otp                                       makes target/staticlib/libotp.a, for x86-64 Linux
  *     cc -Iinclude desk.c target/staticlib/libotp.a -o desk     compiles and links a program
  *     desk/build                                                makes libotp.a for the RP2350's own cores: see desk/README.md
  *

@@ -11,8 +11,7 @@
  * who takes these sizes writes nothing outside a buffer of so many bytes. This is proved, as is what each call answers: as for otp.h, and
  * without this header. It is C11 and C++17, and asserts the layout of its struct at compile time.
  *
- *     rt staticlib otp
- *     rt staticlib splash                                       makes target/staticlib/libsplash.a, for x86-64 Linux
+ *     tools/staticlib otp splash                                makes target/staticlib/libsplash.a too, for x86-64 Linux
  *     cc -Iinclude splash.c target/staticlib/libsplash.a target/staticlib/libotp.a -o splash
  *     desk/build                                                makes both for the RP2350's own cores: see desk/README.md
  *
