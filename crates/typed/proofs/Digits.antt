@@ -1,6 +1,6 @@
 -- Digits: which bytes are digits, what is left of a number that is read digit by digit, and two digits of a key.
 -- Assumes nothing.
-use mathlib.Core.Path.{◌≡◌, refl, sym}
+use mathlib.Core.Path.{◌≡◌, refl, sym, ◌∙◌}
 use mathlib.Core.Bool.{Bool, true, false, ◌&&◌, and-false, true≢false}
 use mathlib.Core.List.{List, [], ◌∷◌}
 use Prim.Native.Nat.{ℕ, zero, suc, ◌+◌, ◌*◌, ◌-◌, ◌≤◌, ◌<◌}
@@ -118,6 +118,12 @@ module _ (base value : ℕ) (digits : List ℕ) (i : ℕ) (h : i < length digits
   pub left_more : (own more : ℕ) → own ≡ digit_of (get_or digits i 0) → own < base → more ≡ value * base + own
       → left base value (drop i digits) ≡ left base more (drop (i + 1) digits)
   left_more own more is fits e = rw (e, is) (left_next (rw is at fits))
+
+-- and where the value is too large with it, there is no number
+pub left_over : (base value : ℕ) (digits : List ℕ) (i : ℕ) → i < length digits → digit_of (get_or digits i 0) < base
+    → 4294967295 < value * base + digit_of (get_or digits i 0) → left base value (drop i digits) ≡ Not
+left_over base value digits i h own large =
+    left_next base value digits i h own ∙ left_large base (value * base + digit_of (get_or digits i 0)) (drop (i + 1) digits) (omega arith) large
 
 -- at the end the value is the number
 pub left_none : (base value : ℕ) (digits : List ℕ) (i : ℕ) → i ≡ length digits → value ≤ 4294967295 → left base value (drop i digits) ≡ Is value

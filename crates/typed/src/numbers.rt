@@ -47,6 +47,7 @@ fn longer(value: u64, base: u32, digit: u32) -> u64
 }
 
 // The number that digits spell.
+#[tactic(auto, using(crate::proofs::Digits::left_over))]
 fn number_in(base: u32, digits: &[u8]) -> Number
     requires { base ≤ 16 }
     ensures { result ≡ spec.number_in base digits.now }

@@ -1,6 +1,6 @@
 -- `crate::numbers::number_in` meets its contract: digit by digit.
-use Rattle.std.proofs.Common.{◌+◌, sym, ◌∙◌, drop, arith}
-use Rattle.typed.proofs.Digits.{all_left, none_spelled, left_not, left_more, left_large, left_none}
+use Rattle.std.proofs.Common.{sym, ◌∙◌, arith}
+use Rattle.typed.proofs.Digits.{all_left, none_spelled, left_not, left_more, left_none}
 use Rattle.typed.proofs.numbers.number_in.Goals as goal
 
 pub returns-then-digits-eq0 : goal.returns-then-digits-eq0
@@ -14,13 +14,6 @@ returns-then-base-own c =
     let a = c.args in
     let l = c.loop-i in
     sym (l.invariant.made ∙ left_not a.base l.value a.digits.now l.i (omega arith) (omega arith))
-
-pub returns-then-value-gt4294967295 : goal.returns-then-value-gt4294967295
-returns-then-value-gt4294967295 c =
-    let a = c.args in
-    let l = c.loop-i in
-    sym (l.invariant.made ∙ left_more a.base l.value a.digits.now l.i (omega arith) _ _ c.digit-own.ensures.value (omega arith) c.longer-value.ensures
-    ∙ left_large a.base c.longer-value.result (drop (l.i + 1) a.digits.now) (omega arith) (omega arith))
 
 pub loop-i-preserved : goal.loop-i-preserved
 loop-i-preserved c =
