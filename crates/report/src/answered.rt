@@ -79,6 +79,7 @@ fn refused(words: Words, before: &[u32; 4096], state: State, job: &[u8], answer:
 
 // The outcome of a job that was run on a copy of the rows: those before and after it. What cannot be saved is not shown.
 pub fn show(
+    rt: &HostRuntime,
     words: Words,
     before: &[u32; 4096],
     after: &[u32; 4096],
@@ -92,13 +93,13 @@ pub fn show(
         refused(words, before, state, job, answer);
         return;
     }
-    if !save_asked(words, after) {
+    if !save_asked(rt, words, after) {
         return;
     }
     changed(before, after, job, answer);
     let left = outcome.state;
     gains(state, left);
     summary(answer, count_of(job), words, limit);
-    saved_line(words);
+    saved_line(rt, words);
     finish(words, state, 0);
 }

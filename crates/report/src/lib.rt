@@ -1,4 +1,6 @@
 // What a job was answered and what it did, on the screen: the same for every verb that runs one.
+#![tactic(auto)]
+
 mod against;
 pub mod answered;
 mod changes;

@@ -9,7 +9,7 @@ use screen::print;
 use screen::tally::sum;
 
 // The two parts of a job: how many entries come before its locks, the pulses of these, and the pulses of its locks.
-#[derive(Drop)]
+#[derive(Clone, Copy)]
 struct Parts {
     entries: u32,
     data: u32,
