@@ -16,14 +16,22 @@ fn burnt_into(rows: &mut [u32; 4096], state: State, job: &[u8], limit: u32) -> O
 }
 
 // Rehearses a job on a copy of the rows.
-fn rehearsed(words: Words, before: &[u32; 4096], state: State, job: &[u8], limit: u32) {
+fn rehearsed(
+    rt: &HostRuntime,
+    words: Words,
+    before: &[u32; 4096],
+    state: State,
+    job: &[u8],
+    limit: u32,
+) {
     let mut after = *before;
     let outcome = burnt_into(&mut after, state, job, limit);
-    answered::show(words, before, &after, state, job, limit, outcome);
+    answered::show(rt, words, before, &after, state, job, limit, outcome);
 }
 
 // The job is the first bytes of an array.
 fn of_bytes(
+    rt: &HostRuntime,
     words: Words,
     rows: &[u32; 4096],
     state: State,
@@ -31,40 +39,40 @@ fn of_bytes(
     length: usize,
     limit: u32,
 ) {
-    rehearsed(words, rows, state, part(bytes, 0, length), limit);
+    rehearsed(rt, words, rows, state, part(bytes, 0, length), limit);
 }
 
-fn of_files(words: Words, limit: u32) {
+fn of_files(rt: &HostRuntime, words: Words, limit: u32) {
     let mut rows = [0u32; 4096];
-    let begun = begin(words, &mut rows);
+    let begun = begin(rt, words, &mut rows);
     let start = begun.start;
     let state = begun.state;
     if let Start::Ready = start {
         let mut job = [0u8; 3080];
-        if let Length::Is(n) = load_job(words.second, &mut job) {
-            of_bytes(words, &rows, state, &job, n, limit);
+        if let Length::Is(n) = load_job(rt, words.second, &mut job) {
+            of_bytes(rt, words, &rows, state, &job, n, limit);
         }
     }
 }
 
 // Without a limit: more pulses than any job takes.
-fn limit_of(words: Words) -> Number {
+fn limit_of(rt: &HostRuntime, words: Words) -> Number {
     if words.third == 0 {
         return Number::Is(MOST_PULSES);
     }
-    word::number(words.third)
+    word::number(rt, words.third)
 }
 
-fn of_words(words: Words) {
-    match limit_of(words) {
-        Number::Is(limit) => of_files(words, limit),
-        Number::Not => usage::not_a_number(words.third),
+fn of_words(rt: &HostRuntime, words: Words) {
+    match limit_of(rt, words) {
+        Number::Is(limit) => of_files(rt, words, limit),
+        Number::Not => usage::not_a_number(rt, words.third),
     }
 }
 
-pub fn run() {
+pub fn run(rt: &HostRuntime) {
     let takes = Takes::on_image(Role::Job, 2, 3).with_save();
-    if let Given::Words(words) = asked(takes) {
-        of_words(words);
+    if let Given::Words(words) = asked(rt, takes) {
+        of_words(rt, words);
     }
 }

@@ -33,8 +33,8 @@ fn reason(why: Why) {
 }
 
 // "otp: 'card.txt': line 3: '0x0c0': it is not above the row before it"
-pub fn line(place: usize, text: &[u8], reading: Reading, n: u32, why: Why) {
-    at(place, text, reading.line, reading.start, n);
+pub fn line(rt: &HostRuntime, place: usize, text: &[u8], reading: Reading, n: u32, why: Why) {
+    at(rt, place, text, reading.line, reading.start, n);
     reason(why);
     ended::file();
 }

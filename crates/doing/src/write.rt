@@ -18,7 +18,7 @@ use typed::words::part;
 type Room = [u8; 3085];
 
 // What the library finds wrong, at which entry, and with which of its words.
-#[derive(Drop)]
+#[derive(Clone, Copy)]
 struct Found {
     why: Why,
     entry: u32,
@@ -45,35 +45,35 @@ fn found_at(fault: Fault) -> Found {
 }
 
 // Names the line of a fault: the text is read again, as far as the entry.
-fn refuse(words: Words, text: &[u8], found: Found) {
+fn refuse(rt: &HostRuntime, words: Words, text: &[u8], found: Found) {
     let mut job = [0u8; 3085];
     let reading = read(text, &mut job, sum(found.entry, 1));
     let why = found.why;
-    text_errors::line(words.first, text, reading, found.word, why);
+    text_errors::line(rt, words.first, text, reading, found.word, why);
 }
 
 // "5 entries, written as card.job"
-fn last_line(count: u32, place: usize) {
+fn last_line(rt: &HostRuntime, count: u32, place: usize) {
     print::number(count);
     if count == 1 {
         print::text(b" entry, written as ");
     } else {
         print::text(b" entries, written as ");
     }
-    word::print(place);
+    word::print(rt, place);
     print::end();
     ended::answered(0);
 }
 
 // The job is whole. It is written where the library finds no fault in it.
-fn judged(words: Words, text: &[u8], job: &[u8], count: u32) {
+fn judged(rt: &HostRuntime, words: Words, text: &[u8], job: &[u8], count: u32) {
     let fault = fault_of(job);
     if fault_number(fault) != 0 {
-        refuse(words, text, found_at(fault));
+        refuse(rt, words, text, found_at(fault));
         return;
     }
-    if save_bytes(words.second, job) {
-        last_line(count, words.second);
+    if save_bytes(rt, words.second, job) {
+        last_line(rt, count, words.second);
     }
 }
 
@@ -82,33 +82,33 @@ fn whole(job: &Room, count: u32) -> &[u8] {
     part(job, 0, 7 + 6 * (count as usize))
 }
 
-fn of_text(words: Words, text: &[u8]) {
+fn of_text(rt: &HostRuntime, words: Words, text: &[u8]) {
     let mut job = [0u8; 3085];
     let reading = read(text, &mut job, MOST_ENTRIES + 1);
     let why = reading.why;
     if !reading.going {
-        text_errors::line(words.first, text, reading, reading.word, why);
+        text_errors::line(rt, words.first, text, reading, reading.word, why);
         return;
     }
     put_head(&mut job, reading.version, reading.count);
-    judged(words, text, whole(&job, reading.count), reading.count);
+    judged(rt, words, text, whole(&job, reading.count), reading.count);
 }
 
 // The text is the first bytes of an array.
-fn of_bytes(words: Words, bytes: &[u8; 65536], length: usize) {
-    of_text(words, part(bytes, 0, length));
+fn of_bytes(rt: &HostRuntime, words: Words, bytes: &[u8; 65536], length: usize) {
+    of_text(rt, words, part(bytes, 0, length));
 }
 
-fn of_words(words: Words) {
+fn of_words(rt: &HostRuntime, words: Words) {
     let mut bytes = io::large_buffer();
-    if let Length::Is(n) = load_text(words.first, &mut bytes) {
-        of_bytes(words, &bytes, n);
+    if let Length::Is(n) = load_text(rt, words.first, &mut bytes) {
+        of_bytes(rt, words, &bytes, n);
     }
 }
 
-pub fn run() {
+pub fn run(rt: &HostRuntime) {
     let takes = Takes::words(Role::Text, Role::Written, 2, 2).with_replace();
-    if let Given::Words(words) = asked(takes) {
-        of_words(words);
+    if let Given::Words(words) = asked(rt, takes) {
+        of_words(rt, words);
     }
 }

@@ -28,30 +28,30 @@ fn burning(entries: u32, bits: u32) {
     print::text(b" to burn");
 }
 
-fn last_line(entries: u32, bits: u32, place: usize) {
+fn last_line(rt: &HostRuntime, entries: u32, bits: u32, place: usize) {
     if entries == 0 {
         print::text(b"no entries, for the images are the same");
     } else {
         burning(entries, bits);
     }
     print::text(b", written as ");
-    word::print(place);
+    word::print(rt, place);
     print::end();
     ended::answered(0);
 }
 
-fn made(words: Words, job: &[u8], bits: u32) {
-    if save_bytes(words.third, job) {
-        last_line(count_of(job), bits, words.third);
+fn made(rt: &HostRuntime, words: Words, job: &[u8], bits: u32) {
+    if save_bytes(rt, words.third, job) {
+        last_line(rt, count_of(job), bits, words.third);
     }
 }
 
 // The job is the first bytes of an array.
-fn of_bytes(words: Words, bytes: &[u8; ROOM], length: usize, burnt: u32) {
-    made(words, part(bytes, 0, length), burnt);
+fn of_bytes(rt: &HostRuntime, words: Words, bytes: &[u8; ROOM], length: usize, burnt: u32) {
+    made(rt, words, part(bytes, 0, length), burnt);
 }
 
-fn of_images(words: Words, present: &[u32; 4096], wanted: &[u32; 4096]) {
+fn of_images(rt: &HostRuntime, words: Words, present: &[u32; 4096], wanted: &[u32; 4096]) {
     let mut bytes = [0u8; ROOM];
     let answer = make_job(present, wanted, &mut bytes);
     if answer.number != 0 {
@@ -60,6 +60,7 @@ fn of_images(words: Words, present: &[u32; 4096], wanted: &[u32; 4096]) {
         return;
     }
     of_bytes(
+        rt,
         words,
         &bytes,
         answer.value as usize,
@@ -67,23 +68,23 @@ fn of_images(words: Words, present: &[u32; 4096], wanted: &[u32; 4096]) {
     );
 }
 
-fn of_words(words: Words) {
+fn of_words(rt: &HostRuntime, words: Words) {
     let mut present = [0u32; 4096];
-    if !load_image(words.first, &mut present) {
+    if !load_image(rt, words.first, &mut present) {
         return;
     }
     let mut wanted = [0u32; 4096];
-    if !load_image(words.second, &mut wanted) {
+    if !load_image(rt, words.second, &mut wanted) {
         return;
     }
-    of_images(words, &present, &wanted);
+    of_images(rt, words, &present, &wanted);
 }
 
-pub fn run() {
+pub fn run(rt: &HostRuntime) {
     let takes = Takes::words(Role::Image, Role::Image, 3, 3)
         .with_third(Role::Written)
         .with_replace();
-    if let Given::Words(words) = asked(takes) {
-        of_words(words);
+    if let Given::Words(words) = asked(rt, takes) {
+        of_words(rt, words);
     }
 }
