@@ -48,16 +48,16 @@ fn of_value(value: u32) {
     show(value as u16);
 }
 
-fn of_word(place: usize) {
-    match word::number(place) {
+fn of_word(rt: &HostRuntime, place: usize) {
+    match word::number(rt, place) {
         Number::Is(value) => of_value(value),
-        Number::Not => usage::not_a_number(place),
+        Number::Not => usage::not_a_number(rt, place),
     }
 }
 
-pub fn run() {
+pub fn run(rt: &HostRuntime) {
     let takes = Takes::words(Role::Other, Role::Other, 1, 1);
-    if let Given::Words(words) = asked(takes) {
-        of_word(words.first);
+    if let Given::Words(words) = asked(rt, takes) {
+        of_word(rt, words.first);
     }
 }

@@ -10,15 +10,15 @@ use console::word;
 use screen::print;
 
 // "A  rehearsed.img"
-fn name_line(name: &[u8], place: usize) {
+fn name_line(rt: &HostRuntime, name: &[u8], place: usize) {
     print::left(name, 3);
-    word::print(place);
+    word::print(rt, place);
     print::end();
 }
 
 // Whether an image is one that a reset takes. Where it is not, the name says which of the two, and the lines of the reset why.
-fn taken(name: &[u8], place: usize, rows: &[u32; 4096]) -> bool {
-    name_line(name, place);
+fn taken(rt: &HostRuntime, name: &[u8], place: usize, rows: &[u32; 4096]) -> bool {
+    name_line(rt, name, place);
     let begun = after_reset(rows);
     let start = begun.start;
     match start {
@@ -27,32 +27,32 @@ fn taken(name: &[u8], place: usize, rows: &[u32; 4096]) -> bool {
     }
 }
 
-fn of_images(words: Words, a: &[u32; 4096], b: &[u32; 4096]) {
-    if !taken(b"A", words.first, a) {
+fn of_images(rt: &HostRuntime, words: Words, a: &[u32; 4096], b: &[u32; 4096]) {
+    if !taken(rt, b"A", words.first, a) {
         return;
     }
-    if !taken(b"B", words.second, b) {
+    if !taken(rt, b"B", words.second, b) {
         return;
     }
     print::end();
     differences::show(a, b);
 }
 
-fn of_words(words: Words) {
+fn of_words(rt: &HostRuntime, words: Words) {
     let mut a = [0u32; 4096];
-    if !load_image(words.first, &mut a) {
+    if !load_image(rt, words.first, &mut a) {
         return;
     }
     let mut b = [0u32; 4096];
-    if !load_image(words.second, &mut b) {
+    if !load_image(rt, words.second, &mut b) {
         return;
     }
-    of_images(words, &a, &b);
+    of_images(rt, words, &a, &b);
 }
 
-pub fn run() {
+pub fn run(rt: &HostRuntime) {
     let takes = Takes::words(Role::Image, Role::Image, 2, 2);
-    if let Given::Words(words) = asked(takes) {
-        of_words(words);
+    if let Given::Words(words) = asked(rt, takes) {
+        of_words(rt, words);
     }
 }

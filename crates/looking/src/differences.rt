@@ -8,7 +8,7 @@ use screen::tally::{one_more, sum};
 use wording::ecc;
 
 // The rows that differ; of B the bits that it lacks and has more, and the rows with such bits.
-#[derive(Drop)]
+#[derive(Clone, Copy)]
 struct Found {
     rows: u32,
     lacking: u32,

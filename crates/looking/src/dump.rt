@@ -7,9 +7,9 @@ use console::options::Words;
 use console::takes::{Role, Takes};
 use console::usage::{Given, asked};
 
-fn of_range(words: Words, range: Range) {
+fn of_range(rt: &HostRuntime, words: Words, range: Range) {
     let mut rows = [0u32; 4096];
-    let begun = begin(words, &mut rows);
+    let begun = begin(rt, words, &mut rows);
     let start = begun.start;
     let state = begun.state;
     if let Start::Ready = start {
@@ -18,19 +18,19 @@ fn of_range(words: Words, range: Range) {
     }
 }
 
-fn of_words(words: Words) {
+fn of_words(rt: &HostRuntime, words: Words) {
     if words.second == 0 {
-        of_range(words, range::held_before(4096));
+        of_range(rt, words, range::held_before(4096));
         return;
     }
-    if let Rows::Range(range) = range::named(words) {
-        of_range(words, range);
+    if let Rows::Range(range) = range::named(rt, words) {
+        of_range(rt, words, range);
     }
 }
 
-pub fn run() {
+pub fn run(rt: &HostRuntime) {
     let takes = Takes::on_image(Role::Other, 1, 3);
-    if let Given::Words(words) = asked(takes) {
-        of_words(words);
+    if let Given::Words(words) = asked(rt, takes) {
+        of_words(rt, words);
     }
 }

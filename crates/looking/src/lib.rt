@@ -1,4 +1,6 @@
 // The verbs that look at files row by row or entry by entry, and change nothing.
+#![tactic(auto)]
+
 pub mod code;
 pub mod compare;
 mod differences;

@@ -93,16 +93,16 @@ fn of_bytes(bytes: &[u8; 3080], length: usize) {
     of_job(part(bytes, 0, length));
 }
 
-fn of_file(place: usize) {
+fn of_file(rt: &HostRuntime, place: usize) {
     let mut bytes = [0u8; 3080];
-    if let Length::Is(n) = load_job(place, &mut bytes) {
+    if let Length::Is(n) = load_job(rt, place, &mut bytes) {
         of_bytes(&bytes, n);
     }
 }
 
-pub fn run() {
+pub fn run(rt: &HostRuntime) {
     let takes = Takes::words(Role::Job, Role::Other, 1, 1);
-    if let Given::Words(words) = asked(takes) {
-        of_file(words.first);
+    if let Given::Words(words) = asked(rt, takes) {
+        of_file(rt, words.first);
     }
 }

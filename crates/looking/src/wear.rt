@@ -8,9 +8,9 @@ use console::options::Words;
 use console::takes::{Role, Takes};
 use console::usage::{Given, asked};
 
-fn of_range(words: Words, range: Range) {
+fn of_range(rt: &HostRuntime, words: Words, range: Range) {
     let mut rows = [0u32; 4096];
-    let begun = begin(words, &mut rows);
+    let begun = begin(rt, words, &mut rows);
     let start = begun.start;
     let state = begun.state;
     if let Start::Ready = start {
@@ -20,19 +20,19 @@ fn of_range(words: Words, range: Range) {
 }
 
 // Without a range: the rows below those of the keys and locks that hold bits.
-fn of_words(words: Words) {
+fn of_words(rt: &HostRuntime, words: Words) {
     if words.second == 0 {
-        of_range(words, range::held_before(Page::FIRST_KEPT_ROW));
+        of_range(rt, words, range::held_before(Page::FIRST_KEPT_ROW));
         return;
     }
-    if let Rows::Range(range) = range::from_first_to_last(words) {
-        of_range(words, range);
+    if let Rows::Range(range) = range::from_first_to_last(rt, words) {
+        of_range(rt, words, range);
     }
 }
 
-pub fn run() {
+pub fn run(rt: &HostRuntime) {
     let takes = Takes::on_image(Role::Other, 1, 3);
-    if let Given::Words(words) = asked(takes) {
-        of_words(words);
+    if let Given::Words(words) = asked(rt, takes) {
+        of_words(rt, words);
     }
 }

@@ -10,7 +10,7 @@ use screen::tally::sum;
 use wording::{condition, refusals};
 
 // What a read says of the wear of its row.
-#[derive(Drop)]
+#[derive(Clone, Copy)]
 enum Wear {
     Clean,
     Repaired,
@@ -20,7 +20,7 @@ enum Wear {
 }
 
 // How many rows there are of each.
-#[derive(Drop)]
+#[derive(Clone, Copy)]
 struct Count {
     clean: u32,
     repaired: u32,
