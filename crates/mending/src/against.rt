@@ -36,7 +36,7 @@ fn out_of_place(list: &[u32], place: usize) {
 
 // "   it is line 3 of rows.txt", where the list is from a text: that is read again, as far as the row. Its rows are not wanted, and only the first
 // is kept.
-fn text_line(words: Words, text: &[u8], place: usize) {
+fn text_line(rt: &HostRuntime, words: Words, text: &[u8], place: usize) {
     if words.rows == 0 {
         return;
     }
@@ -47,17 +47,17 @@ fn text_line(words: Words, text: &[u8], place: usize) {
     let reading = read(text, &mut kept, place as u32 + 1);
     print::number_after(b"   it is line ", reading.line);
     print::text(b" of ");
-    word::print(words.rows);
+    word::print(rt, words.rows);
     print::end();
 }
 
-pub(crate) fn lines(words: Words, number: u32, list: &[u32], text: &[u8]) {
+pub(crate) fn lines(rt: &HostRuntime, words: Words, number: u32, list: &[u32], text: &[u8]) {
     number_and_list_words(number);
     if number == 11 {
         let place = first_out(list);
         out_of_place(list, place);
         print::end();
-        text_line(words, text, place);
+        text_line(rt, words, text, place);
     } else {
         print::end();
     }

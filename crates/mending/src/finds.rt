@@ -6,7 +6,7 @@ use repair::finding::Found;
 use screen::tally::sum;
 
 // How many rows there are of each.
-#[derive(Drop)]
+#[derive(Clone, Copy)]
 pub(crate) struct Count {
     pub clean: u32,
     pub mended: u32,

@@ -1,4 +1,6 @@
 // The verb that repairs rows of a board, and says of each what was found.
+#![tactic(auto)]
+
 mod against;
 mod finds;
 mod list_errors;

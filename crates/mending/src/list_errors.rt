@@ -14,8 +14,8 @@ fn reason(why: Why) {
 }
 
 // "otp: 'rows.txt': line 3: 'ecc': a line has a row alone; a comment begins with #"
-pub(crate) fn line(place: usize, text: &[u8], reading: Reading) {
-    at(place, text, reading.line, reading.start, reading.word);
+pub(crate) fn line(rt: &HostRuntime, place: usize, text: &[u8], reading: Reading) {
+    at(rt, place, text, reading.line, reading.start, reading.word);
     let why = reading.why;
     reason(why);
     ended::file();

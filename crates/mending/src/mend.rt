@@ -22,6 +22,7 @@ const MOST: u32 = 4096;
 
 // What the pass did, by the rows before and after it. What cannot be saved is not shown.
 fn shown(
+    rt: &HostRuntime,
     words: Words,
     before: &[u32; 4096],
     after: &[u32; 4096],
@@ -30,13 +31,13 @@ fn shown(
     report: &[u32; 4096],
     outcome: Outcome,
 ) {
-    if !save_asked(words, after) {
+    if !save_asked(rt, words, after) {
         return;
     }
     let answer = outcome.answer;
     let left = outcome.state;
     show::rows(before, after, state, left, list, report, answer.pulses);
-    saved_line(words);
+    saved_line(rt, words);
     finish(words, state, 0);
 }
 
@@ -50,31 +51,39 @@ fn burnt_into(
 }
 
 // Repairs a copy of the rows. The text is the one that the list is from, if it is from one.
-fn repaired(words: Words, before: &[u32; 4096], state: State, list: &[u32], text: &[u8]) {
+fn repaired(
+    rt: &HostRuntime,
+    words: Words,
+    before: &[u32; 4096],
+    state: State,
+    list: &[u32],
+    text: &[u8],
+) {
     let mut after = *before;
     let mut report = [0u32; 4096];
     let outcome = burnt_into(&mut after, state, list, &mut report);
     let answer = outcome.answer;
     if answer.number != 0 {
-        against::lines(words, answer.number, list, text);
+        against::lines(rt, words, answer.number, list, text);
         finish(words, state, answer.number);
         return;
     }
-    shown(words, before, &after, state, list, &report, outcome);
+    shown(rt, words, before, &after, state, list, &report, outcome);
 }
 
-fn of_text(words: Words, rows: &[u32; 4096], state: State, text: &[u8]) {
+fn of_text(rt: &HostRuntime, words: Words, rows: &[u32; 4096], state: State, text: &[u8]) {
     let mut list = [0u32; 4096];
     let reading = read(text, &mut list, MOST);
     if !reading.going {
-        list_errors::line(words.rows, text, reading);
+        list_errors::line(rt, words.rows, text, reading);
         return;
     }
-    of_rows(words, rows, state, &list, reading.count as usize, text);
+    of_rows(rt, words, rows, state, &list, reading.count as usize, text);
 }
 
 // The list is the first rows of an array.
 fn of_rows(
+    rt: &HostRuntime,
     words: Words,
     rows: &[u32; 4096],
     state: State,
@@ -82,79 +91,88 @@ fn of_rows(
     count: usize,
     text: &[u8],
 ) {
-    repaired(words, rows, state, first(list, count), text);
+    repaired(rt, words, rows, state, first(list, count), text);
 }
 
 // The text is the first bytes of an array.
-fn of_bytes(words: Words, rows: &[u32; 4096], state: State, bytes: &[u8; 65536], length: usize) {
-    of_text(words, rows, state, part(bytes, 0, length));
+fn of_bytes(
+    rt: &HostRuntime,
+    words: Words,
+    rows: &[u32; 4096],
+    state: State,
+    bytes: &[u8; 65536],
+    length: usize,
+) {
+    of_text(rt, words, rows, state, part(bytes, 0, length));
 }
 
-fn by_text(words: Words) {
+fn by_text(rt: &HostRuntime, words: Words) {
     let mut rows = [0u32; 4096];
-    let begun = begin(words, &mut rows);
+    let begun = begin(rt, words, &mut rows);
     let start = begun.start;
     let state = begun.state;
     if let Start::Ready = start {
         let mut bytes = io::large_buffer();
-        if let Length::Is(n) = load_text(words.rows, &mut bytes) {
-            of_bytes(words, &rows, state, &bytes, n);
+        if let Length::Is(n) = load_text(rt, words.rows, &mut bytes) {
+            of_bytes(rt, words, &rows, state, &bytes, n);
         }
     }
 }
 
-fn of_range(words: Words, rows: &[u32; 4096], state: State, range: Range)
+fn of_range(rt: &HostRuntime, words: Words, rows: &[u32; 4096], state: State, range: Range)
     requires { range.first ≤ range.past }
 {
     let mut list = [0u32; 4096];
     put_range(&mut list, range.first, range.past);
     let count = range.past - range.first;
-    of_rows(words, rows, state, &list, count as usize, b"");
+    of_rows(rt, words, rows, state, &list, count as usize, b"");
 }
 
-fn by_range(words: Words, range: Range)
+fn by_range(rt: &HostRuntime, words: Words, range: Range)
     requires { range.first ≤ range.past }
 {
     let mut rows = [0u32; 4096];
-    let begun = begin(words, &mut rows);
+    let begun = begin(rt, words, &mut rows);
     let start = begun.start;
     let state = begun.state;
     if let Start::Ready = start {
-        of_range(words, &rows, state, range);
+        of_range(rt, words, &rows, state, range);
     }
 }
 
-fn by_words(words: Words) {
-    if let Rows::Range(range) = range::from_first_to_last(words) {
-        by_range(words, range);
+fn by_words(rt: &HostRuntime, words: Words) {
+    if let Rows::Range(range) = range::from_first_to_last(rt, words) {
+        by_range(rt, words, range);
     }
 }
 
-fn of_words(words: Words) {
+fn of_words(rt: &HostRuntime, words: Words) {
     if words.rows != 0 {
         if words.second != 0 {
             usage::wrong(
+                rt,
                 words.second,
                 b"the rows are those of FIRST and LAST or of --rows, not of both",
             );
             return;
         }
-        by_text(words);
+        by_text(rt, words);
         return;
     }
     if words.second == 0 {
         usage::wrong(
-            word::command(),
+            rt,
+            word::command(rt),
             b"FIRST and LAST, or --rows, are missing; ./otp help shows them",
         );
         return;
     }
-    by_words(words);
+    by_words(rt, words);
 }
 
-pub fn run() {
+pub fn run(rt: &HostRuntime) {
     let takes = Takes::on_image(Role::Other, 1, 3).with_rows().with_save();
-    if let Given::Words(words) = asked(takes) {
-        of_words(words);
+    if let Given::Words(words) = asked(rt, takes) {
+        of_words(rt, words);
     }
 }
