@@ -20,7 +20,7 @@ const AREA: usize = AREA_BYTES as usize;
 const ROOM: usize = AREA + 1;
 
 // Whether more may come. Where the input could not be read, the command has ended.
-#[derive(Drop)]
+#[derive(Clone, Copy)]
 enum Input {
     Open,
     Ended,
@@ -28,7 +28,7 @@ enum Input {
 }
 
 // What has come: the note of it, how many faults were said, and whether more may come.
-#[derive(Drop)]
+#[derive(Clone, Copy)]
 struct Heard {
     note: Note,
     said: u32,
@@ -97,23 +97,23 @@ fn with_first(area: &mut [u8], heard: Heard, bytes: &[u8; 4096], length: usize) 
 }
 
 // With what comes next, however long it takes to come.
-fn with_next(area: &mut [u8], heard: Heard) -> Heard {
+fn with_next(rt: &HostRuntime, area: &mut [u8], heard: Heard) -> Heard {
     let mut bytes = io::buffer();
-    match read_input(&mut bytes) {
+    match read_input(rt, &mut bytes) {
         Length::Is(n) => with_first(area, heard, &bytes, n),
         Length::Not => closed(heard, Input::Unread),
     }
 }
 
 // All that comes. Each piece has a byte at least, so the longest job has come after as many pieces as it has bytes.
-fn all_of(area: &mut [u8]) -> Heard {
+fn all_of(rt: &HostRuntime, area: &mut [u8]) -> Heard {
     let mut heard = nothing_yet();
     for _ in 0..ROOM {
         let input = heard.input;
         let Input::Open = input else {
             return heard;
         };
-        heard = with_next(area, heard);
+        heard = with_next(rt, area, heard);
     }
     heard
 }
@@ -123,36 +123,43 @@ fn burnt_into(rows: &mut [u32; 4096], state: State, area: &[u8], note: Note) -> 
 }
 
 // The end of the job: it is run on a copy of the rows.
-fn ended(words: Words, before: &[u32; 4096], state: State, room: &[u8; ROOM], note: Note) {
+fn ended(
+    rt: &HostRuntime,
+    words: Words,
+    before: &[u32; 4096],
+    state: State,
+    room: &[u8; ROOM],
+    note: Note,
+) {
     let mut after = *before;
     let area = part(room, 0, AREA);
     let outcome = burnt_into(&mut after, state, area, note);
     let job = part(room, 0, note.counted as usize);
-    answered::show(words, before, &after, state, job, MOST_PULSES, outcome);
+    answered::show(rt, words, before, &after, state, job, MOST_PULSES, outcome);
 }
 
 // The image is loaded first, so that what is wrong with it is said before anything is awaited.
-fn of_words(words: Words) {
+fn of_words(rt: &HostRuntime, words: Words) {
     let mut rows = [0u32; 4096];
-    let begun = begin(words, &mut rows);
+    let begun = begin(rt, words, &mut rows);
     let start = begun.start;
     let state = begun.state;
     if let Start::Ready = start {
         let mut room = [0u8; ROOM];
-        let heard = all_of(&mut room[..AREA]);
+        let heard = all_of(rt, &mut room[..AREA]);
         let input = heard.input;
         let note = heard.note;
         if let Input::Unread = input {
             return;
         }
-        ended(words, &rows, state, &room, note);
+        ended(rt, words, &rows, state, &room, note);
     }
 }
 
 // The job has no word: it is standard input.
-pub fn run() {
+pub fn run(rt: &HostRuntime) {
     let takes = Takes::on_image(Role::Job, 1, 1).with_save();
-    if let Given::Words(words) = asked(takes) {
-        of_words(words);
+    if let Given::Words(words) = asked(rt, takes) {
+        of_words(rt, words);
     }
 }
