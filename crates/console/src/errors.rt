@@ -33,7 +33,7 @@ pub(crate) fn number_of(error: Error) -> i32 {
     }
 }
 
-// The name of a file that some bytes are. Files are named in UTF-8: another name is one that the system refuses.
+// The name of a file that some bytes are. The library names files in UTF-8 alone: another name cannot be asked for.
 pub(crate) fn named(bytes: &[u8]) -> Result<&str, i32> {
     match str::from_utf8(bytes) {
         Ok(name) => Ok(name),

@@ -27,6 +27,10 @@ fn other_reason(error: i32) {
         print::line(b"the device failed, or is gone");
         return;
     }
+    if error == errors::EILSEQ {
+        print::line(b"its name is no UTF-8 text");
+        return;
+    }
     print::line(b"the system refuses it");
 }
 

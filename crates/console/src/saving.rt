@@ -11,7 +11,7 @@ use std::fs;
 use std::fs::{File, OpenOptions};
 use std::io::{Error, Write};
 
-// Gives a new file its bytes, sees that they have reached the disk, and closes it. The system's error, or 0.
+// Gives a new file its bytes, sees that they have reached the disk, and closes it. The system's error, or 0; closing tells of none.
 fn fill(mut file: File, bytes: &[u8]) -> i32 {
     if let Err(error) = file.write_all(bytes) {
         return number_of(error);

@@ -86,8 +86,8 @@ pub fn number(rt: &HostRuntime, place: usize) -> Number
 
 // The key that a word spells. False where it spells none.
 pub fn key(rt: &HostRuntime, place: usize, key: &mut [u8; 16]) -> bool
-    ensures some { Some (λ word. result ≡ spells_key word) }
-    ensures some_2 { Some (λ word. key.new ≡ key_after word key.old) }
+    ensures spells { Some (λ word. result ≡ spells_key word) }
+    ensures put { Some (λ word. key.new ≡ key_after word key.old) }
 {
     let mut word = [0u8; 48];
     let n = read(rt, place, &mut word);
