@@ -9,13 +9,17 @@
 #include <stdio.h>
 #include <string.h>
 
-/* The page of the splash card, and a row of it behind the card. */
-enum { PAGE = 3, FIRST_CARD_ROW = PAGE * OTP_PAGE_ROWS, ROW = FIRST_CARD_ROW + 6, WRITE_KEY = 1, READ_KEY = 2, WORDS = 8 };
+/* A page and its first row, and those of the splash card. */
+enum { PAGE = 20, ROW = PAGE * OTP_PAGE_ROWS, CARD_PAGE = 3, FIRST_CARD_ROW = CARD_PAGE * OTP_PAGE_ROWS };
+enum { WRITE_KEY = 1, READ_KEY = 2, WORDS = 8 };
 
 static uint32_t rows[OTP_ROWS];
 static otp_state state;
 static otp_answer answer;
 static otp_card card;
+
+/* The page that the call at hand looks at, which the keys are of. */
+static uint32_t page;
 
 static void read_raw(void) { answer = otp_read_raw(rows, OTP_ROWS, state, OTP_NONSECURE, ROW); }
 static void read_ecc(void) { answer = otp_read_ecc(rows, OTP_ROWS, state, OTP_NONSECURE, ROW); }
@@ -33,21 +37,23 @@ static void read_card(void)
 static const struct {
     const char *name;
     void (*call)(void);
+    uint32_t page;
 } calls[] = {
-    {"read raw", read_raw},
-    {"read ECC", read_ecc},
-    {"read a vote of 8", read_vote},
-    {"write raw", write_raw},
-    {"write ECC", write_ecc},
-    {"read a card", read_card},
+    {"read raw", read_raw, PAGE},
+    {"read ECC", read_ecc, PAGE},
+    {"read a vote of 8", read_vote, PAGE},
+    {"write raw", write_raw, PAGE},
+    {"write ECC", write_ecc, PAGE},
+    {"read a card", read_card, CARD_PAGE},
 };
 
-/* The rows of a card of version 2, and all else blank: 320 x 240, and 512 bytes in a line. */
-static void burn_card(void)
+/* Blank rows, and for a read of a card one of version 2: 320 x 240, and 512 bytes in a line. */
+static void lay_rows(void)
 {
     static const uint32_t burnt[] = {0x225053, 0x2a004c, 0x250002, 0x060140, 0x2400f0, 0x0e0200};
     memset(rows, 0, sizeof rows);
-    memcpy(rows + FIRST_CARD_ROW, burnt, sizeof burnt);
+    if (page == CARD_PAGE)
+        memcpy(rows + FIRST_CARD_ROW, burnt, sizeof burnt);
 }
 
 /* A key's words: the first is what comes in, and the others go up from it. */
@@ -64,9 +70,9 @@ static void store_keys(uint16_t first, bool nokey)
 {
     otp_state start = OTP_START;
     state = start;
-    state.writekey[PAGE] = WRITE_KEY;
-    state.readkey[PAGE] = READ_KEY;
-    state.nokey[PAGE] = nokey;
+    state.writekey[page] = WRITE_KEY;
+    state.readkey[page] = READ_KEY;
+    state.nokey[page] = nokey;
     fill(key(WRITE_KEY)->words, first);
     fill(key(READ_KEY)->words, (uint16_t)(first + 1));
     key(WRITE_KEY)->valid = key(WRITE_KEY)->whole = key(READ_KEY)->valid = key(READ_KEY)->whole = true;
@@ -133,8 +139,9 @@ static bool even(size_t group, size_t call)
     uint32_t first = 0;
     otp_answer said;
     otp_card shown;
+    page = calls[call].page;
     for (uint32_t which = 0; which < groups[group].chips; which++) {
-        burn_card();
+        lay_rows();
         groups[group].make(which);
         answer = no_answer;
         card = no_card;
