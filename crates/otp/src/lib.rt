@@ -1,4 +1,5 @@
-// The face for C and Rust: every call of document 01 as a function of libotp.a, which include/otp.h declares.
+// The face for C, as Rattle code has it: every call of document 01, with what C takes of its answer. otp_c makes libotp.a of it, which
+// include/otp.h declares.
 #![tactic(auto)]
 
 pub mod calls;
