@@ -1,2 +1,3 @@
 pub mod Choices
 pub mod Ladders
+pub mod Numbered

@@ -4,7 +4,7 @@ ghost use Rattle.answer.specs.Answers as spec;
 
 // What an ECC read says of the row: clean, or repaired, with the place of the repaired bit; or flag worn, where bits 23 and 22 disagree,
 // by itself or with the place of the repaired bit.
-#[derive(Clone, Copy)]
+#[derive(Clone, Copy, Debug, PartialEq, Eq)]
 pub enum Condition {
     Clean,
     Repaired(u32),
@@ -13,14 +13,14 @@ pub enum Condition {
 }
 
 // Which polarity the row was in.
-#[derive(Clone, Copy)]
+#[derive(Clone, Copy, Debug, PartialEq, Eq)]
 pub enum Polarity {
     Plain,
     Inverted,
 }
 
 // The number, the value that was read, the condition of the row and its polarity, the place in a job, and the pulses spent.
-#[derive(Clone, Copy)]
+#[derive(Clone, Copy, Debug, PartialEq, Eq)]
 pub struct Answer {
     pub number: u32,
     pub value: u32,

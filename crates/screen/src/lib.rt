@@ -3,4 +3,5 @@
 
 pub mod print;
 pub mod same;
+pub mod shown;
 pub mod tally;
