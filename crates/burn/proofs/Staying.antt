@@ -12,7 +12,7 @@ use Rattle.answer.specs.Answers.{answered, spent}
 use Rattle.std.specs.Prelude.{if◌then◌else◌}
 use Rattle.answer.specs.Rungs.{or_else}
 use Rattle.answer.specs.declared.answers.Answer.{Answer}
-use Rattle.row.specs.declared.writing.Written.{Written}
+use Rattle.row.specs.Writing.{Written}
 use Rattle.chip.specs.Tallies.{◌gains◌, with_gain}
 use Rattle.chip.specs.declared.state.State.{State}
 use Rattle.chip.specs.declared.state.Outcome.{Outcome}

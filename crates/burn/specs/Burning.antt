@@ -3,7 +3,7 @@ use Rattle.std.specs.Prelude.{ℕ, List, [], ◌∷◌, eqb, set}
 use Rattle.answer.specs.Answers.{refused_at, spent}
 use Rattle.std.specs.Prelude.{if◌then◌else◌}
 use Rattle.answer.specs.declared.answers.Answer.{Answer}
-use Rattle.row.specs.declared.writing.Written.{Written}
+use Rattle.row.specs.Writing.{Written}
 use Rattle.chip.specs.States.{with_tallies}
 use Rattle.chip.specs.Tallies.{Gain, ◌gains◌, with_gains}
 use Rattle.chip.specs.declared.state.State.{State}

@@ -13,7 +13,7 @@ use lib.Seq.{get_or-set_same}
 use Rattle.std.specs.Prelude.{if◌then◌else◌}
 use Rattle.answer.specs.declared.answers.Answer.{Answer}
 use Rattle.row.specs.Writing.{ecc_written}
-use Rattle.row.specs.declared.writing.Written.{Written}
+use Rattle.row.specs.Writing.{Written}
 use Rattle.decode.specs.Reading.{read_row}
 use Rattle.chip.specs.Slices.{row_at}
 use Rattle.chip.specs.declared.state.State.{State}

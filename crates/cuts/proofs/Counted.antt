@@ -14,7 +14,7 @@ use lib.Seq.{set-get_or}
 use Rattle.answer.proofs.Ladders.{never_zero}
 use Rattle.row.specs.Upward.{burnt_upward}
 use Rattle.row.specs.Writing.{pulses, ecc_written, raw_written}
-use Rattle.row.specs.declared.writing.Written.{Written}
+use Rattle.row.specs.Writing.{Written}
 use Rattle.answer.proofs.Choices.{both_ways}
 use Rattle.answer.proofs.Ladders.{passed}
 use Rattle.chip.specs.Pages.{page_of}

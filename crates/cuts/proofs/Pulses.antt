@@ -9,7 +9,7 @@ use lib.Dec.{ltb}
 use lib.ListN.{length, length-set}
 use Rattle.answer.proofs.Ladders.{never_zero}
 use Rattle.row.specs.Writing.{pulses, ecc_written, raw_written}
-use Rattle.row.specs.declared.writing.Written.{Written}
+use Rattle.row.specs.Writing.{Written}
 use Rattle.permit.specs.Permission.{may_write}
 use Rattle.chip.specs.Slices.{row_at}
 use Rattle.chip.specs.declared.state.State.{State}

@@ -12,7 +12,7 @@ use lib.ListN.{length, set, length-set}
 use lib.Seq.{get_or-set_same, get_or-set_other}
 use Rattle.row.specs.Upward.{burnt_upward}
 use Rattle.row.specs.Writing.{pulses}
-use Rattle.row.specs.declared.writing.Written.{Written}
+use Rattle.row.specs.Writing.{Written}
 use Rattle.answer.proofs.Choices.{both_ways}
 use Rattle.chip.specs.Slices.{row_at}
 use Rattle.chip.specs.declared.state.State.{State}

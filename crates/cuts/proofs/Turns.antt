@@ -15,7 +15,7 @@ use Rattle.std.specs.Prelude.{if◌then◌else◌}
 use Rattle.decode.specs.Reading.{data_of}
 use Rattle.answer.specs.Rungs.{◌when◌, first_of, or_else}
 use Rattle.row.specs.Writing.{ecc_written, raw_written, neither_fits}
-use Rattle.row.specs.declared.writing.Written.{Written}
+use Rattle.row.specs.Writing.{Written}
 use Rattle.answer.proofs.Ladders.{refusing, then_rungs}
 use Rattle.row.proofs.Unfit.{nine}
 use Rattle.permit.specs.Keys.{hidden}

@@ -2,7 +2,7 @@
 use Rattle.std.specs.Prelude.{ℕ, ◌+◌, ◌-◌, List, [], ◌∷◌, leb, set}
 use Rattle.std.specs.Prelude.{if◌then◌else◌}
 use Rattle.row.specs.Upward.{burnt_upward}
-use Rattle.row.specs.declared.writing.Written.{Written}
+use Rattle.row.specs.Writing.{Written}
 use Rattle.chip.specs.Slices.{row_at}
 use Rattle.chip.specs.Tallies.{Gain, ◌gains◌}
 use Rattle.form.specs.declared.entries.Entry.{Entry}

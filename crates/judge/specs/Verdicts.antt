@@ -4,7 +4,7 @@ use Rattle.std.specs.Prelude.{if◌then◌else◌}
 use Rattle.decode.specs.Reading.{data_of}
 use Rattle.answer.specs.Rungs.{Rung, ◌when◌, ◌of_entry◌, first_of, place_of}
 use Rattle.row.specs.Writing.{ecc_written, raw_written, neither_fits}
-use Rattle.row.specs.declared.writing.Written.{Written}
+use Rattle.row.specs.Writing.{Written}
 use Rattle.permit.specs.Permission.{may_write}
 use Rattle.chip.specs.Slices.{row_at, not_whole, too_large}
 use Rattle.chip.specs.declared.state.State.{State}

@@ -14,7 +14,7 @@ use Rattle.decode.specs.Reading.{undecodable}
 use Rattle.answer.specs.Rungs.{Rung, ◌when◌, first_of, or_else}
 use Rattle.row.specs.Writing.{ecc_written, raw_written, neither_fits}
 use Rattle.answer.specs.declared.answers.Answer.{Answer}
-use Rattle.row.specs.declared.writing.Written.{Written}
+use Rattle.row.specs.Writing.{Written}
 use Rattle.chip.specs.Callers.{no_caller}
 use Rattle.permit.specs.Keys.{matches, key_level, hidden}
 use Rattle.chip.specs.Slices.{row_at, not_whole, too_large}

@@ -12,7 +12,7 @@ use Rattle.std.specs.Prelude.{if◌then◌else◌}
 use Rattle.row.specs.Code.{code}
 use Rattle.decode.specs.Reading.{data_of}
 use Rattle.row.specs.Writing.{pulses, ecc_written, raw_written}
-use Rattle.row.specs.declared.writing.Written.{Written}
+use Rattle.row.specs.Writing.{Written}
 use Rattle.row.proofs.Codes.{code_lt}
 use Rattle.form.specs.declared.entries.Entry.{Entry}
 use Rattle.judge.specs.Verdicts.{entry_written}

@@ -14,7 +14,7 @@ use Rattle.row.specs.Code.{bit_at, set_bits, flipped, plain, inverted}
 use Rattle.decode.specs.Reading.{read_row}
 use Rattle.row.specs.Writing.{fits, pulses, burnt_over, left_alone, ecc_written}
 use Rattle.answer.specs.declared.answers.Condition.TheVariants.{Clean}
-use Rattle.row.specs.declared.writing.Written.{Written}
+use Rattle.row.specs.Writing.{Written}
 use Rattle.row.proofs.Counts.{ones_sum, ZeroOrPower, one_set}
 use Rattle.row.proofs.Digits.{zero_or_one, at_below, equal3}
 use Rattle.row.proofs.Places.{bit_lt, bit_at-bit_and, bit_at-bit_or, bit_at-bit_xor, by_digits, and_assoc, and_or, and_power}

@@ -16,7 +16,7 @@ use Rattle.decode.specs.Reading.{read_row, undecodable}
 use Rattle.answer.specs.Rungs.{◌when◌}
 use Rattle.row.specs.Writing.{ecc_written, raw_written, neither_fits}
 use Rattle.answer.specs.declared.answers.Answer.{Answer}
-use Rattle.row.specs.declared.writing.Written.{Written}
+use Rattle.row.specs.Writing.{Written}
 use Rattle.vote.specs.Voting.{threshold, vote}
 use Rattle.chip.specs.Callers.{shown_level}
 use Rattle.permit.specs.Permission.{may_read, may_write}

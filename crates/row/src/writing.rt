@@ -3,11 +3,11 @@ ghost use Rattle.std.specs.Prelude.{◌≡◌};
 ghost use Rattle.row.specs.Writing as spec;
 
 use crate::coding::{flipped, inverted, plain, set_bits};
+use answer::refusals::Refusal;
 
-// The number of a write, the row that it leaves, and the pulses that it takes.
-#[derive(Clone, Copy)]
-pub struct Written {
-    pub number: u32,
+// The row that a write leaves, and the pulses that it takes.
+#[derive(Clone, Copy, Debug, PartialEq, Eq)]
+pub struct Burnt {
     pub row: u32,
     pub pulses: u32,
 }
@@ -27,38 +27,33 @@ pub fn pulses(old: u32, row: u32) -> u32
 }
 
 // A row burnt over an old one.
-fn burnt_over(old: u32, row: u32) -> Written
-    ensures { result ≡ spec.burnt_over old row }
+fn burnt_over(old: u32, row: u32) -> Burnt
+    ensures { spec.done_with result ≡ spec.burnt_over old row }
 {
-    Written {
-        number: 0,
+    Burnt {
         row,
         pulses: pulses(old, row),
     }
 }
 
 // An ECC write: the polarity is chosen from the bits already set.
-pub fn write_ecc(old: u32, value: u16) -> Written
-    ensures { result ≡ spec.ecc_written old value }
+pub fn write_ecc(old: u32, value: u16) -> Result<Burnt, Refusal>
+    ensures { spec.written_by old result ≡ spec.ecc_written old value }
 {
     let upright = plain(value);
     if fits(old, upright) {
-        return burnt_over(old, upright);
+        return Ok(burnt_over(old, upright));
     }
     let turned = inverted(value);
     if fits(old, turned) {
-        return burnt_over(old, turned);
+        return Ok(burnt_over(old, turned));
     }
-    Written {
-        number: 9,
-        row: old,
-        pulses: 0,
-    }
+    Err(Refusal::NeitherFits)
 }
 
 // A raw write adds its bits.
-pub fn write_raw(old: u32, value: u32) -> Written
-    ensures { result ≡ spec.raw_written old value }
+pub fn write_raw(old: u32, value: u32) -> Burnt
+    ensures { spec.done_with result ≡ spec.raw_written old value }
 {
     burnt_over(old, old | value)
 }

@@ -7,7 +7,7 @@ use Prim.Native.Nat.{ℕ, ◌+◌, ◌-◌, ◌≤◌, ◌<◌}
 use native.Mathlib.Omega.{arith}
 use native.Mathlib.Nat.{add-zero, sub_self}
 use lib.ListN.{length, set, length-set}
-use Rattle.row.specs.declared.writing.Written.{Written}
+use Rattle.row.specs.Writing.{Written}
 use Rattle.row.specs.Upward.{burnt_upward}
 use Rattle.chip.specs.Slices.{row_at}
 use Rattle.chip.specs.Tallies.{◌gains◌, with_gain, with_gains}
