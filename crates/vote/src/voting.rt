@@ -1,9 +1,6 @@
 // Votes over gathered rows (document 01, "Votes").
-ghost use Rattle.std.specs.Prelude.{◌≡◌, ◌<◌, ◌≤◌, take};
+ghost use Rattle.std.specs.Prelude.{◌≡◌, ◌<◌};
 ghost use Rattle.vote.specs.Voting as spec;
-
-// Eight gathered rows, of which the first few count.
-pub type Gathered = [u32; 8];
 
 // How many of `count` rows must have a bit: two of three, three of eight.
 pub fn threshold(count: u32) -> u32
@@ -12,34 +9,23 @@ pub fn threshold(count: u32) -> u32
     if count == 3 { 2 } else { 3 }
 }
 
-// How many of the first `count` rows have the bit at a place.
-fn holders(rows: Gathered, count: usize, place: u32) -> u32
-    requires { (count ≤ 8) × (place < 32) }
-    ensures { result ≡ spec.holders place (take count rows) }
+// How many rows have the bit at a place.
+fn holders(rows: &[u32], place: u32) -> usize
+    requires { place < 32 }
+    ensures { result ≡ spec.holders place rows.now }
 {
-    let mut held = 0;
-    let mut i = 0;
-    while i < 8 {
-        if i < count {
-            held += (rows[i] >> place) % 2;
-        }
-        i += 1;
-    }
-    held
+    rows.iter().filter(|row| (**row >> place) % 2 == 1).count()
 }
 
-// The vote of the first `count` of eight gathered rows: each of the 24 bits is judged by itself.
-pub fn vote(rows: Gathered, count: u32, threshold: u32) -> u32
-    ensures { result ≡ spec.vote threshold (take count rows) }
+// The vote of some rows: each of the 24 bits is judged by itself.
+pub fn vote(rows: &[u32], threshold: u32) -> u32
+    ensures { result ≡ spec.vote threshold rows.now }
 {
-    let counted = if count < 8 { count as usize } else { 8 };
     let mut voted = 0;
-    let mut place = 0;
-    while place < 24 {
-        if threshold <= holders(rows, counted, place) {
+    for place in 0..24 {
+        if threshold as usize <= holders(rows, place) {
             voted += 1 << place;
         }
-        place += 1;
     }
     voted
 }

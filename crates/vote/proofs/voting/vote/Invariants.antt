@@ -1,13 +1,8 @@
 -- `vote::voting::vote`: the bits judged so far are those of the vote, and no other is set.
 -- Assumes nothing.
 use mathlib.Core.Path.{◌≡◌}
-use Prim.Native.Nat.{◌-◌, ◌≤◌}
-use lib.ListN.{take}
 use Rattle.vote.specs.Voting.{voted_below}
 use Rattle.vote.proofs.voting.vote.Given as goal
 
 abbrev pub invariant-loop-place : goal.invariant-loop-place
-invariant-loop-place l = (l.place ≤ 24) × (l.voted ≡ voted_below l.place l.threshold (take l.counted l.rows))
-
-abbrev pub decreases-loop-place : goal.decreases-loop-place
-decreases-loop-place l = 24 - l.place
+invariant-loop-place l = l.voted ≡ voted_below l.place l.threshold l.rows
