@@ -15,8 +15,8 @@ pub enum Condition {
 // Which polarity the row was in.
 #[derive(Clone, Copy, Debug, PartialEq, Eq)]
 pub enum Polarity {
-    Plain,
-    Inverted,
+    Plain = 0,
+    Inverted = 1,
 }
 
 // The number, the value that was read, the condition of the row and its polarity, the place in a job, and the pulses spent.

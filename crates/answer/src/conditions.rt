@@ -4,7 +4,7 @@ ghost use Rattle.answer.specs.Conditions as spec;
 
 use crate::answers::{Condition, Polarity};
 
-// 0 for clean, 1 for repaired, 2 for flag worn, 3 for flag worn and repaired.
+// 0 for clean, 1 for repaired, 2 for flag worn, 3 for flag worn and repaired. A `match`, since `as` takes no enum whose variants hold a bit.
 pub fn condition_number(condition: Condition) -> u32
     ensures { result ≡ spec.condition_number condition }
 {
@@ -21,10 +21,8 @@ pub fn repaired_bit(condition: Condition) -> u32
     ensures { result ≡ spec.repaired_bit condition }
 {
     match condition {
-        Condition::Clean => 0,
-        Condition::Repaired(bit) => bit,
-        Condition::FlagWorn => 0,
-        Condition::FlagWornRepaired(bit) => bit,
+        Condition::Clean | Condition::FlagWorn => 0,
+        Condition::Repaired(bit) | Condition::FlagWornRepaired(bit) => bit,
     }
 }
 
@@ -32,10 +30,7 @@ pub fn repaired_bit(condition: Condition) -> u32
 pub fn polarity_number(polarity: Polarity) -> u32
     ensures { result ≡ spec.polarity_number polarity }
 {
-    match polarity {
-        Polarity::Plain => 0,
-        Polarity::Inverted => 1,
-    }
+    polarity as u32
 }
 
 // 0 where bits 23 and 22 agreed, 1 where they disagreed.
@@ -43,9 +38,7 @@ pub fn disagree_number(condition: Condition) -> u32
     ensures { result ≡ spec.disagree_number condition }
 {
     match condition {
-        Condition::Clean => 0,
-        Condition::Repaired(_) => 0,
-        Condition::FlagWorn => 1,
-        Condition::FlagWornRepaired(_) => 1,
+        Condition::Clean | Condition::Repaired(_) => 0,
+        Condition::FlagWorn | Condition::FlagWornRepaired(_) => 1,
     }
 }
