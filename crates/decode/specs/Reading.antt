@@ -1,5 +1,5 @@
 -- Reading a row with ECC (document 01, "A row with ECC"; request 2026-03 for what is said of polarity and wear).
-use Rattle.std.specs.Prelude.{ℕ, zero, suc, ◌/◌, ◌%◌, ◌^◌, Bool, not, eqb}
+use Rattle.std.specs.Prelude.{ℕ, zero, suc, ◌/◌, ◌%◌, ◌^◌, Bool, Option, Some, None, Result, Ok, Err, not, eqb}
 use Rattle.std.specs.Int.Bits.{bit_xor}
 use Rattle.std.specs.Prelude.{if◌then◌else◌}
 use Rattle.answer.specs.Answers.{refused, found, found_in, answered}
@@ -9,6 +9,9 @@ use Rattle.answer.specs.declared.answers.Condition.{Condition}
 use Rattle.answer.specs.declared.answers.Condition.TheVariants.{Clean, Repaired, FlagWorn, FlagWornRepaired}
 use Rattle.answer.specs.declared.answers.Polarity.{Polarity}
 use Rattle.answer.specs.declared.answers.Polarity.TheVariants.{Plain, Inverted}
+use Rattle.answer.specs.declared.refusals.Refusal.{Refusal}
+use Rattle.answer.specs.Refusals.{refusal_number}
+use Rattle.decode.specs.declared.reading.Held.{Held}
 
 -- bits 23 and 22 are both set
 abbrev pub both_set : ℕ → Bool
@@ -69,3 +72,17 @@ read_row row = said_of row (decoded (upright row % 2 ^ 22))
 -- no value has a code within one bit
 abbrev pub undecodable : ℕ → Bool
 undecodable row = eqb (read_row row).number 8
+
+-- repaired where a bit was, else clean
+abbrev pub repaired_at : Option ℕ → Condition
+repaired_at None = Clean
+repaired_at (Some bit) = Repaired bit
+
+-- what bits 21:0 hold, as such an answer
+abbrev pub held_as : Held → Answer
+held_as held = found held.value (repaired_at held.repaired)
+
+-- and where they hold none, its refusal
+abbrev pub held_by : Result Held Refusal → Answer
+held_by (Ok held) = held_as held
+held_by (Err refusal) = refused (refusal_number refusal)

@@ -2,8 +2,16 @@
 ghost use Rattle.std.specs.Prelude.{◌≡◌, ◌%◌, ◌^◌};
 ghost use Rattle.decode.specs.Reading as spec;
 
-use answer::answers::{Answer, Condition, Polarity, found, found_in, refused};
+use answer::answers::{Answer, Condition, Polarity, found_in};
+use answer::refusals::Refusal;
 use row::coding::{code, flipped};
+
+// What bits 21:0 hold: a value, and the place of the bit that was repaired.
+#[derive(Clone, Copy)]
+struct Held {
+    value: u32,
+    repaired: Option<u32>,
+}
 
 // Whether bits 23 and 22 are both set.
 fn both_set(row: u32) -> bool
@@ -16,22 +24,22 @@ fn both_set(row: u32) -> bool
 fn upright(row: u32) -> u32
     ensures { result ≡ spec.upright row }
 {
-    if both_set(row) {
-        return flipped(row);
-    }
-    row
+    if both_set(row) { flipped(row) } else { row }
 }
 
 // What bits 21:0 hold: the value whose code differs from them in at most one place. The syndrome, which is where the check bits differ from
 // those of the data, names that place: the flip of each of the 22 makes another.
-fn decoded(bits: u32) -> Answer
-    ensures { result ≡ spec.decoded (bits % 2 ^ 22) }
+fn decoded(bits: u32) -> Result<Held, Refusal>
+    ensures { spec.held_by result ≡ spec.decoded (bits % 2 ^ 22) }
 {
     let own = bits % 4194304;
     let value = own % 65536;
     let syndrome = ((own ^ code(value as u16)) >> 16) % 64;
     if syndrome == 0 {
-        return found(value, Condition::Clean);
+        return Ok(Held {
+            value,
+            repaired: None,
+        });
     }
     let place = match syndrome {
         0x23 => 0,
@@ -56,9 +64,12 @@ fn decoded(bits: u32) -> Answer
         0x08 => 19,
         0x10 => 20,
         0x20 => 21,
-        _ => return refused(8),
+        _ => return Err(Refusal::NotDecoded),
     };
-    found((own ^ (1 << place)) % 65536, Condition::Repaired(place))
+    Ok(Held {
+        value: (own ^ (1 << place)) % 65536,
+        repaired: Some(place),
+    })
 }
 
 // Which polarity a row is in.
@@ -66,9 +77,10 @@ fn polarity_of(row: u32) -> Polarity
     ensures { result ≡ spec.polarity_of row }
 {
     if both_set(row) {
-        return Polarity::Inverted;
+        Polarity::Inverted
+    } else {
+        Polarity::Plain
     }
-    Polarity::Plain
 }
 
 // Whether bits 23 and 22 disagree.
@@ -78,38 +90,26 @@ fn disagree(row: u32) -> bool
     (row >> 23) % 2 != (row >> 22) % 2
 }
 
-// The condition of a row whose bits 23 and 22 disagree.
-fn flag_worn(condition: Condition) -> Condition
-    ensures { result ≡ spec.flag_worn condition }
+// What is said of a row that holds this: its polarity, whether a bit was repaired, and flag worn where bits 23 and 22 disagree.
+fn said_of(row: u32, held: Held) -> Answer
+    ensures { result ≡ spec.said_of row (spec.held_as held) }
 {
-    match condition {
-        Condition::Clean => Condition::FlagWorn,
-        Condition::Repaired(bit) => Condition::FlagWornRepaired(bit),
-        Condition::FlagWorn => Condition::FlagWorn,
-        Condition::FlagWornRepaired(bit) => Condition::FlagWornRepaired(bit),
-    }
-}
-
-// What is said of a row that holds this: its polarity, and flag worn where bits 23 and 22 disagree. A refusal says neither.
-fn said_of(row: u32, held: Answer) -> Answer
-    ensures { result ≡ spec.said_of row held }
-{
-    let number = held.number;
-    if number != 0 {
-        return refused(number);
-    }
-    let value = held.value;
-    let condition = held.condition;
     let polarity = polarity_of(row);
-    if disagree(row) {
-        return found_in(polarity, value, flag_worn(condition));
-    }
-    found_in(polarity, value, condition)
+    let condition = match (disagree(row), held.repaired) {
+        (false, None) => Condition::Clean,
+        (false, Some(bit)) => Condition::Repaired(bit),
+        (true, None) => Condition::FlagWorn,
+        (true, Some(bit)) => Condition::FlagWornRepaired(bit),
+    };
+    found_in(polarity, held.value, condition)
 }
 
-// A row read with ECC.
+// A row read with ECC. A refusal says neither polarity nor wear.
 pub fn read_row(row: u32) -> Answer
     ensures { result ≡ spec.read_row row }
 {
-    said_of(row, decoded(upright(row)))
+    match decoded(upright(row)) {
+        Ok(held) => said_of(row, held),
+        Err(refusal) => refusal.into(),
+    }
 }

@@ -16,15 +16,14 @@ use Rattle.decode.proofs.reading.decoded.Goals.{in-35, in-37, in-38, in-7, in-41
 pub returns-then-syndrome-eq0 : goal.returns-then-syndrome-eq0
 returns-then-syndrome-eq0 c =
     let own : ℕ = c.args.bits % 2 ^ 22 in
-    c.found.ensures ∙ sym (read_clean own c.code.result c.code.ensures (mod-lt _ (pow_pos 22)) c.if-syndrome-eq0.true)
+    sym (read_clean own c.code.result c.code.ensures (mod-lt _ (pow_pos 22)) c.if-syndrome-eq0.true)
 
 pub returns-in_default : goal.returns-in_default
 unfolding columns
 returns-in_default c =
     let own : ℕ = c.args.bits % 2 ^ 22 in
     let missed : Missed 22 (bit_xor own c.code.result / 2 ^ 16 % 64) = ((((((((((((((((((((((tt, λ e. omega arith), λ e. omega arith), λ e. omega arith), λ e. omega arith), λ e. omega arith), λ e. omega arith), λ e. omega arith), λ e. omega arith), λ e. omega arith), λ e. omega arith), λ e. omega arith), λ e. omega arith), λ e. omega arith), λ e. omega arith), λ e. omega arith), λ e. omega arith), λ e. omega arith), λ e. omega arith), λ e. omega arith), λ e. omega arith), λ e. omega arith), λ e. omega arith) in
-    c.refused.ensures
-    ∙ sym (read_refused own c.code.result c.code.ensures (mod-lt _ (pow_pos 22)) c.if-syndrome-eq0.false missed)
+    sym (read_refused own c.code.result c.code.ensures (mod-lt _ (pow_pos 22)) c.if-syndrome-eq0.false missed)
 
 pub returns : goal.returns
 unfolding columns
@@ -58,6 +57,5 @@ returns c =
       | in-32 w ↦ named 21 tt w.in-32.is w.place-is
     ] in
     let low : place ≤ 21 = which.1 in
-    c.found-2.ensures
-    ∙ ap (λ (p : ℕ). found (bit_xor own p % 2 ^ 16) (Repaired place)) (shl_exact 1 place 32 (lit< tt) (omega arith) ∙ one-mul (2 ^ place))
+    ap (λ (p : ℕ). found (bit_xor own p % 2 ^ 16) (Repaired place)) (shl_exact 1 place 32 (lit< tt) (omega arith) ∙ one-mul (2 ^ place))
     ∙ sym (read_repaired own c.code.result c.code.ensures (mod-lt _ (pow_pos 22)) place c.if-syndrome-eq0.false which)
