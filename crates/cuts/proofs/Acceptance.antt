@@ -15,9 +15,8 @@ use Rattle.latch.specs.Resetting.{all_in_range}
 use Rattle.burn.specs.Burning.{burnt}
 use Rattle.access.proofs.Passing.{whole}
 use Rattle.form.specs.Entries.{count_of, entry_at, entries_from, entries_of}
-use Rattle.form.specs.Faults.{row_fault, order_faults, rule_of, fault_of}
+use Rattle.form.specs.Faults.{row_fault, order_faults, rule_of, fault_of, Sound}
 use Rattle.form.specs.declared.entries.Entry.{Entry}
-use Rattle.form.specs.declared.faults.Fault.TheVariants.{Sound}
 use Rattle.job.specs.Burning.{Progress, all_written, all_pulses, all_gained}
 use Rattle.job.specs.Jobs.{carried_out, run_job}
 use Rattle.judge.specs.Verdicts.{entry_rungs, all_rungs, verdict_of}

@@ -7,9 +7,8 @@ use Prim.Native.Nat.{ℕ, ◌+◌, ◌≤◌}
 use native.Mathlib.Omega.{arith}
 use lib.Dec.{eqb}
 use Rattle.form.specs.Entries.{version_of, entries_of}
-use Rattle.form.specs.Faults.{row_fault, order_faults, fault_of}
+use Rattle.form.specs.Faults.{row_fault, order_faults, fault_of, Sound}
 use Rattle.form.specs.declared.entries.Entry.{Entry}
-use Rattle.form.specs.declared.faults.Fault.TheVariants.{Sound}
 use Rattle.form.proofs.Faulty.{both_sound, order_sound}
 use Rattle.form.proofs.Placed.{order_kept}
 use Rattle.cuts.specs.Versions.{DataRows}

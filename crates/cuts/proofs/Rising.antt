@@ -11,9 +11,8 @@ use lib.ListN.{set}
 use lib.Seq.{get_or-set_other}
 use Rattle.chip.specs.Slices.{row_at}
 use Rattle.form.specs.Entries.{entry_at, entries_from}
-use Rattle.form.specs.Faults.{row_fault, order_faults}
+use Rattle.form.specs.Faults.{row_fault, order_faults, Sound}
 use Rattle.form.specs.declared.entries.Entry.{Entry}
-use Rattle.form.specs.declared.faults.Fault.TheVariants.{Sound}
 use Rattle.job.specs.Burning.{Progress, written_over, with_entry, rehearsed}
 use Rattle.form.proofs.Faulty.{both_sound}
 use Rattle.form.proofs.Placed.{placed_low, row_kept}

@@ -27,9 +27,8 @@ use Rattle.chip.specs.declared.state.State.{State}
 use Rattle.access.specs.Judging.{raw, ecc, row_rungs, call_rungs}
 use Rattle.burn.specs.Writes.{write_raw_number, write_ecc_number, write_raw, write_ecc}
 use Rattle.form.specs.Entries.{entries_of}
-use Rattle.form.specs.Faults.{form_fault, form_faults}
+use Rattle.form.specs.Faults.{form_fault, form_faults, Sound}
 use Rattle.form.specs.declared.entries.Entry.{Entry}
-use Rattle.form.specs.declared.faults.Fault.TheVariants.{Sound}
 use Rattle.job.specs.Burning.{written_over, with_entry, all_written, all_pulses, all_gained}
 use Rattle.judge.specs.Verdicts.{entry_written}
 use Rattle.form.proofs.Faulty.{both_sound, forms_sound, form_kept}

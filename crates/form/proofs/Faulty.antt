@@ -4,55 +4,21 @@ use mathlib.Core.Path.{◌≡◌, refl, sym, ap, ◌∙◌}
 use mathlib.Core.Bool.{Bool, true, false, not, ◌&&◌}
 use mathlib.Core.List.{List}
 use mathlib.Core.Logic.{◌⊎◌, inl, inr, ⊎_elim}
-use Prim.Native.Nat.{ℕ, suc, ◌+◌, ◌-◌, ◌≤◌, ◌<◌}
+use Prim.Native.Nat.{ℕ, suc, ◌≤◌}
 use borrow.Author.Tests.{eq-eqb, ne_eqb, eqb-true, eqb-false, ltb-false, not-false}
 use lib.Dec.{eqb, ltb}
 use lib.ListN.{length}
 use Rattle.std.specs.Prelude.{if◌then◌else◌}
 use Rattle.answer.proofs.Ladders.{never_zero}
-use Rattle.form.specs.Entries.{version_of, count_of, entry_at, entries_from, entries_of}
-use Rattle.form.specs.Faults.{fault_number, ◌otherwise◌, marked, head_fault, form_fault, form_faults, row_fault, order_faults, fault_under, rule_of, fault_of}
+use Rattle.form.specs.Entries.{version_of, count_of, entries_of}
+use Rattle.form.specs.Faults.{fault_number, ◌otherwise◌, marked, head_fault, form_fault, form_faults, order_faults, fault_under, rule_of, fault_of, Fault, Sound, Short, Mark, Version, Count, Length, Kind, Value, High, Kept, Past, Coded, Late, Order}
 use Rattle.form.specs.declared.entries.Entry.{Entry}
-use Rattle.form.specs.declared.faults.Fault.{Fault}
-use Rattle.form.specs.declared.faults.Fault.TheVariants.{Sound, Short, Mark, Version, Count, Length, Kind, Value, High, Kept, Past, Coded, Late, Order}
-use Rattle.form.proofs.Upward.{next_left}
 
 pub fault_stops : (fault next : Fault) → (fault_number fault ≡ 0 → ⊥) → (fault otherwise next) ≡ fault
 fault_stops fault next some = rw (ne_eqb (fault_number fault) 0 some)
 
 pub fault_next : (fault next : Fault) → fault_number fault ≡ 0 → (fault otherwise next) ≡ next
 fault_next fault next none = rw (eq-eqb (fault_number fault) 0 none)
-
--- the entries that are left: the next one's fault, or what the others have
-module _ (job : List ℕ) (count i : ℕ) (h : i < count) where
-  abbrev form : Fault
-  form = form_fault i (entry_at job i)
-
-  abbrev forms : Fault
-  forms = form_faults (i + 1) (entries_from job (i + 1) (count - (i + 1)))
-
-  pub form_stops : (fault_number form ≡ 0 → ⊥) → form_faults i (entries_from job i (count - i)) ≡ form
-  unfolding form_faults
-  form_stops some = rw (next_left job count i h) (fault_stops form forms some)
-
-  pub form_next : fault_number form ≡ 0 → form_faults i (entries_from job i (count - i)) ≡ forms
-  unfolding form_faults
-  form_next none = rw (next_left job count i h) (fault_next form forms none)
-
-  module _ (version least : ℕ) where
-    abbrev order : Fault
-    order = row_fault version i least (entry_at job i)
-
-    abbrev orders : Fault
-    orders = order_faults version (i + 1) ((entry_at job i).row + 1) (entries_from job (i + 1) (count - (i + 1)))
-
-    pub order_stops : (fault_number order ≡ 0 → ⊥) → order_faults version i least (entries_from job i (count - i)) ≡ order
-    unfolding order_faults
-    order_stops some = rw (next_left job count i h) (fault_stops order orders some)
-
-    pub order_next : fault_number order ≡ 0 → order_faults version i least (entries_from job i (count - i)) ≡ orders
-    unfolding order_faults
-    order_next none = rw (next_left job count i h) (fault_next order orders none)
 
 -- the head, then the forms, then the order
 module _ (version : ℕ) (job : List ℕ) where

@@ -1,4 +1,5 @@
 pub mod Faulty
+pub mod Judged
 pub mod Placed
 pub mod Putting
 pub mod ReadBack

@@ -9,9 +9,8 @@ use borrow.Author.Tests.{eqb-false, leb-true, leb-false, ltb-false}
 use lib.Dec.{eqb, leb, ltb}
 use Rattle.std.specs.Prelude.{if◌then◌else◌}
 use Rattle.answer.proofs.Ladders.{never_zero}
-use Rattle.form.specs.Faults.{order_fault, locking_fault, row_fault}
+use Rattle.form.specs.Faults.{order_fault, locking_fault, row_fault, Sound, High, Kept, Past, Coded, Late, Order}
 use Rattle.form.specs.declared.entries.Entry.{Entry}
-use Rattle.form.specs.declared.faults.Fault.TheVariants.{Sound, High, Kept, Past, Coded, Late, Order}
 use Rattle.form.proofs.Faulty.{head_passed}
 
 -- a data row, or a lock row whose entry is not ECC

@@ -10,10 +10,9 @@ use native.Mathlib.Omega.{arith}
 use borrow.Author.Tests.{le-ltb, eq-eqb}
 use lib.ListN.{length, take, replicate}
 use Rattle.form.specs.Entries.{byte_at, version_of, count_of, entry_at, entries_from, entries_of}
-use Rattle.form.specs.Faults.{marked, head_fault}
+use Rattle.form.specs.Faults.{marked, head_fault, Sound}
 use Rattle.form.specs.Writing.{head_bytes, entry_bytes, with_bytes, with_head, with_entry, with_entries, with_job}
 use Rattle.form.specs.declared.entries.Entry.{Entry}
-use Rattle.form.specs.declared.faults.Fault.TheVariants.{Sound}
 use Rattle.form.proofs.Putting.{length_stays, bytes_front}
 use Rattle.form.proofs.ReadBack.{Fits, entry_alike, head_alike, entry_back, bytes_stay, head_back}
 

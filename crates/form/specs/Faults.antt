@@ -4,8 +4,11 @@ use Rattle.std.specs.Prelude.{if◌then◌else◌}
 use Rattle.chip.specs.Pages.{is_lock_row}
 use Rattle.form.specs.Entries.{byte_at, version_of, count_of, entries_of}
 use Rattle.form.specs.declared.entries.Entry.{Entry}
-use Rattle.form.specs.declared.faults.Fault.{Fault}
-use Rattle.form.specs.declared.faults.Fault.TheVariants.{Sound, Short, Mark, Version, Count, Length, Kind, Value, High, Kept, Past, Coded, Late, Order}
+
+-- the first fault of a job, with the index of its entry where it has one; or none
+pub data Fault : Type 0 where
+  Sound Short Mark Version Count Length : Fault
+  Kind Value High Kept Past Coded Late Order : (i : ℕ) → Fault
 
 -- the number of a fault, and 0 where there is none
 abbrev pub fault_number : Fault → ℕ

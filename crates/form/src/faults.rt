@@ -2,14 +2,15 @@
 ghost use Rattle.std.specs.Prelude.{◌≡◌};
 ghost use Rattle.form.specs.Entries.{entries_from};
 ghost use Rattle.form.specs.Faults as spec;
+ghost use Rattle.form.specs.Said.{said, refusal_of};
 
 use crate::entries::{Entry, byte_at, count_of, entry_at, version_of};
+use answer::refusals::Refusal;
 use chip::pages::Page;
 
 // The first fault of a job, with the index of its entry where it has one.
-#[derive(Clone, Copy)]
+#[derive(Clone, Copy, Debug, PartialEq, Eq)]
 pub enum Fault {
-    Sound,
     Short,
     Mark,
     Version,
@@ -28,25 +29,44 @@ pub enum Fault {
 // A job has at most so many entries.
 pub const MOST_ENTRIES: u32 = 512;
 
+impl Fault {
+    // The refusal that it is answered with.
+    pub fn refusal(self) -> Refusal
+        ensures { result ≡ refusal_of self }
+    {
+        match self {
+            Fault::Short
+            | Fault::Mark
+            | Fault::Version
+            | Fault::Count
+            | Fault::Length
+            | Fault::Kind(_)
+            | Fault::Value(_) => Refusal::Malformed,
+            Fault::High(_)
+            | Fault::Kept(_)
+            | Fault::Past(_)
+            | Fault::Coded(_)
+            | Fault::Late(_)
+            | Fault::Order(_) => Refusal::OutOfPlace,
+        }
+    }
+}
+
+impl From<Fault> for Refusal {
+    ghost from_gives = { λ fault refusal. refusal ≡ refusal_of fault };
+
+    fn from(fault: Fault) -> Refusal {
+        fault.refusal()
+    }
+}
+
 // The number of a fault, and 0 where there is none.
-pub fn fault_number(fault: Fault) -> u32
-    ensures { result ≡ spec.fault_number fault }
+pub fn fault_number(judged: Result<(), Fault>) -> u32
+    ensures { result ≡ spec.fault_number (said judged) }
 {
-    match fault {
-        Fault::Sound => 0,
-        Fault::Short => 10,
-        Fault::Mark => 10,
-        Fault::Version => 10,
-        Fault::Count => 10,
-        Fault::Length => 10,
-        Fault::Kind(_) => 10,
-        Fault::Value(_) => 10,
-        Fault::High(_) => 11,
-        Fault::Kept(_) => 11,
-        Fault::Past(_) => 11,
-        Fault::Coded(_) => 11,
-        Fault::Late(_) => 11,
-        Fault::Order(_) => 11,
+    match judged {
+        Ok(()) => 0,
+        Err(fault) => fault.refusal().number(),
     }
 }
 
@@ -65,103 +85,98 @@ fn marked(job: &[u8]) -> bool
 
 // The fault of a job's head, where the job is to have a version.
 #[tactic(auto, unfolding(crate::specs::Faults::head_fault))]
-fn head_fault(job: &[u8], version: u32) -> Fault
-    ensures { result ≡ spec.head_fault version job.now }
+fn head_fault(job: &[u8], version: u32) -> Result<(), Fault>
+    ensures { said result ≡ spec.head_fault version job.now }
 {
     if job.len() < 7 {
-        return Fault::Short;
+        return Err(Fault::Short);
     }
     if !marked(job) {
-        return Fault::Mark;
+        return Err(Fault::Mark);
     }
     if version_of(job) != version {
-        return Fault::Version;
+        return Err(Fault::Version);
     }
     let count = count_of(job);
     if MOST_ENTRIES < count {
-        return Fault::Count;
+        return Err(Fault::Count);
     }
     if job.len() != 7 + 6 * (count as usize) {
-        return Fault::Length;
+        return Err(Fault::Length);
     }
-    Fault::Sound
+    Ok(())
 }
 
 // The fault of an entry's form.
-pub fn form_fault(i: u32, entry: Entry) -> Fault
-    ensures { result ≡ spec.form_fault i entry }
+pub fn form_fault(i: u32, entry: Entry) -> Result<(), Fault>
+    ensures { said result ≡ spec.form_fault i entry }
 {
     if 1 < entry.kind {
-        return Fault::Kind(i);
+        return Err(Fault::Kind(i));
     }
     if entry.kind == 0 {
         if 65535 < entry.value {
-            return Fault::Value(i);
+            return Err(Fault::Value(i));
         }
     }
-    Fault::Sound
+    Ok(())
 }
 
 // The first of the first `count` entries whose form is wrong.
-fn form_faults(job: &[u8], count: u32) -> Fault
-    ensures { result ≡ spec.form_faults 0 (entries_from job.now 0 count) }
+fn form_faults(job: &[u8], count: u32) -> Result<(), Fault>
+    ensures { said result ≡ spec.form_faults 0 (entries_from job.now 0 count) }
 {
-    let mut i = 0;
-    while i < count {
-        let fault = form_fault(i, entry_at(job, i));
-        if fault_number(fault) != 0 {
-            return fault;
-        }
-        i += 1;
+    for i in 0..count {
+        form_fault(i, entry_at(job, i))?;
     }
-    Fault::Sound
+    Ok(())
 }
 
 // The fault of an entry's row in version 1, where `least` is the lowest that may come.
-fn order_fault(i: u32, least: u32, entry: Entry) -> Fault
-    ensures { result ≡ spec.order_fault i least entry }
+fn order_fault(i: u32, least: u32, entry: Entry) -> Result<(), Fault>
+    ensures { said result ≡ spec.order_fault i least entry }
 {
     if Page::FIRST_KEPT_ROW <= entry.row {
-        return Fault::High(i);
+        return Err(Fault::High(i));
     }
     if entry.row < least {
-        return Fault::Order(i);
+        return Err(Fault::Order(i));
     }
-    Fault::Sound
+    Ok(())
 }
 
 // The fault of an entry's row in version 2. A least row above the first lock row says that a lock row went before.
-fn locking_fault(i: u32, least: u32, entry: Entry) -> Fault
-    ensures { result ≡ spec.locking_fault i least entry }
+fn locking_fault(i: u32, least: u32, entry: Entry) -> Result<(), Fault>
+    ensures { said result ≡ spec.locking_fault i least entry }
 {
     let row = entry.row;
     if Page::LAST_ROW < row {
-        return Fault::Past(i);
+        return Err(Fault::Past(i));
     }
     if Page::FIRST_LOCK_ROW <= row {
         if entry.kind == 0 {
-            return Fault::Coded(i);
+            return Err(Fault::Coded(i));
         }
         if row < least {
-            return Fault::Order(i);
+            return Err(Fault::Order(i));
         }
-        return Fault::Sound;
+        return Ok(());
     }
     if Page::FIRST_KEPT_ROW <= row {
-        return Fault::Kept(i);
+        return Err(Fault::Kept(i));
     }
     if Page::FIRST_LOCK_ROW < least {
-        return Fault::Late(i);
+        return Err(Fault::Late(i));
     }
     if row < least {
-        return Fault::Order(i);
+        return Err(Fault::Order(i));
     }
-    Fault::Sound
+    Ok(())
 }
 
 // The fault of an entry's row by a version's rule.
-pub fn row_fault(version: u32, i: u32, least: u32, entry: Entry) -> Fault
-    ensures { result ≡ spec.row_fault version i least entry }
+pub fn row_fault(version: u32, i: u32, least: u32, entry: Entry) -> Result<(), Fault>
+    ensures { said result ≡ spec.row_fault version i least entry }
 {
     if version == 2 {
         return locking_fault(i, least, entry);
@@ -170,42 +185,31 @@ pub fn row_fault(version: u32, i: u32, least: u32, entry: Entry) -> Fault
 }
 
 // The first of the first `count` entries whose row is wrong by a version's rule.
-fn order_faults(job: &[u8], version: u32, count: u32) -> Fault
-    ensures { result ≡ spec.order_faults version 0 0 (entries_from job.now 0 count) }
+fn order_faults(job: &[u8], version: u32, count: u32) -> Result<(), Fault>
+    ensures { said result ≡ spec.order_faults version 0 0 (entries_from job.now 0 count) }
 {
     let mut least = 0;
-    let mut i = 0;
-    while i < count {
+    for i in 0..count {
         let entry = entry_at(job, i);
-        let fault = row_fault(version, i, least, entry);
-        if fault_number(fault) != 0 {
-            return fault;
-        }
+        row_fault(version, i, least, entry)?;
         least = entry.row + 1;
-        i += 1;
     }
-    Fault::Sound
+    Ok(())
 }
 
 // The first fault of a job by a version's rule: its head, then the form of all entries, then the order of their rows.
-fn fault_under(job: &[u8], version: u32) -> Fault
-    ensures { result ≡ spec.fault_under version job.now }
+fn fault_under(job: &[u8], version: u32) -> Result<(), Fault>
+    ensures { said result ≡ spec.fault_under version job.now }
 {
-    let head = head_fault(job, version);
-    if fault_number(head) != 0 {
-        return head;
-    }
+    head_fault(job, version)?;
     let count = count_of(job);
-    let form = form_faults(job, count);
-    if fault_number(form) != 0 {
-        return form;
-    }
+    form_faults(job, count)?;
     order_faults(job, version, count)
 }
 
 // The first fault of a job, by the rule of version 2 where that is its version, and else by that of version 1.
-pub fn fault_of(job: &[u8]) -> Fault
-    ensures { result ≡ spec.fault_of job.now }
+pub fn fault_of(job: &[u8]) -> Result<(), Fault>
+    ensures { said result ≡ spec.fault_of job.now }
 {
     if version_of(job) == 2 {
         return fault_under(job, 2);

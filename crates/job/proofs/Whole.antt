@@ -20,9 +20,8 @@ use Rattle.answer.proofs.Ladders.{passed}
 use Rattle.chip.specs.Slices.{not_whole}
 use Rattle.chip.specs.declared.state.State.{State}
 use Rattle.form.specs.Entries.{count_of, entries_from, entries_of}
-use Rattle.form.specs.Faults.{rule_of, fault_of, malformed, out_of_order}
+use Rattle.form.specs.Faults.{rule_of, fault_of, malformed, out_of_order, Sound}
 use Rattle.form.specs.declared.entries.Entry.{Entry}
-use Rattle.form.specs.declared.faults.Fault.TheVariants.{Sound}
 use Rattle.job.specs.Burning.{Progress, written_over, with_entry, all_written, all_pulses, all_gained, rehearsed}
 use Rattle.job.specs.Jobs.{carried_out, run_job, rehearse}
 use Rattle.judge.specs.Verdicts.{entry_written, all_rungs, verdict_of}

@@ -12,9 +12,8 @@ use Rattle.permit.specs.Permission.{may_write}
 use Rattle.chip.specs.Slices.{row_at, too_large}
 use Rattle.chip.specs.declared.state.State.{State}
 use Rattle.form.specs.Entries.{entry_at, entries_from}
-use Rattle.form.specs.Faults.{fault_number}
+use Rattle.form.specs.Faults.{fault_number, Fault}
 use Rattle.form.specs.declared.entries.Entry.{Entry}
-use Rattle.form.specs.declared.faults.Fault.{Fault}
 use Rattle.judge.specs.Verdicts.{unfit, entry_rungs, all_rungs, verdict}
 use Rattle.form.proofs.Faulty.{one_of}
 use Rattle.form.proofs.Upward.{next_left}

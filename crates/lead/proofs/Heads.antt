@@ -11,8 +11,7 @@ use lib.Dec.{eqb, ltb, leb}
 use lib.ListN.{length}
 use Rattle.std.specs.Prelude.{if◌then◌else◌}
 use Rattle.form.specs.Entries.{byte_at, two_at, count_of, entries_from}
-use Rattle.form.specs.Faults.{fault_number, ◌otherwise◌, rule_of}
-use Rattle.form.specs.declared.faults.Fault.{Fault}
+use Rattle.form.specs.Faults.{fault_number, ◌otherwise◌, rule_of, Fault}
 use Rattle.form.proofs.Faulty.{fault_stops, fault_next}
 use Rattle.lead.specs.Early.{came, spoils, unknown_version, large_count, head_brought, entry_faults, past_brought, brought}
 use Rattle.lead.specs.Notes.{begun_before, so_far, ended_in}

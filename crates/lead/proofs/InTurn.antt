@@ -8,9 +8,7 @@ use native.Mathlib.Omega.{arith}
 use lib.Dec.{eqb}
 use Rattle.std.specs.Prelude.{if◌then◌else◌}
 use Rattle.form.specs.Entries.{entry_at, entries_from}
-use Rattle.form.specs.Faults.{fault_number, ◌otherwise◌, form_fault, row_fault}
-use Rattle.form.specs.declared.faults.Fault.{Fault}
-use Rattle.form.specs.declared.faults.Fault.TheVariants.{Sound}
+use Rattle.form.specs.Faults.{fault_number, ◌otherwise◌, form_fault, row_fault, Fault, Sound}
 use Rattle.form.proofs.Faulty.{fault_stops, fault_next}
 use Rattle.form.proofs.Upward.{next_left}
 use Rattle.lead.specs.Early.{entry_faults}

@@ -2,10 +2,8 @@
 use Rattle.std.specs.Prelude.{ℕ, ◌+◌, ◌-◌, ◌*◌, Bool, not, ◌&&◌, ◌||◌, List, [], ◌∷◌, eqb, ltb, leb, length}
 use Rattle.std.specs.Prelude.{if◌then◌else◌}
 use Rattle.form.specs.Entries.{byte_at, version_of, count_of, entries_from}
-use Rattle.form.specs.Faults.{◌otherwise◌, form_fault, row_fault, rule_of}
+use Rattle.form.specs.Faults.{◌otherwise◌, form_fault, row_fault, rule_of, Fault, Sound, Mark, Version, Count, Length}
 use Rattle.form.specs.declared.entries.Entry.{Entry}
-use Rattle.form.specs.declared.faults.Fault.{Fault}
-use Rattle.form.specs.declared.faults.Fault.TheVariants.{Sound, Mark, Version, Count, Length}
 use Rattle.lead.specs.Notes.{no_room, start_of, stop_of, ended_in, so_far}
 use Rattle.lead.specs.declared.notes.Note.{Note}
 

@@ -14,10 +14,8 @@ use lib.ListN.{length}
 use Rattle.std.specs.Prelude.{if◌then◌else◌}
 use Rattle.answer.proofs.Ladders.{never_zero}
 use Rattle.form.specs.Entries.{version_of, count_of, entry_from, entry_at, entries_from, entries_of}
-use Rattle.form.specs.Faults.{fault_number, ◌otherwise◌, marked, head_fault, form_fault, form_faults, fault_under, rule_of, fault_of, malformed}
+use Rattle.form.specs.Faults.{fault_number, ◌otherwise◌, marked, head_fault, form_fault, form_faults, fault_under, rule_of, fault_of, malformed, Fault, Sound, Short, Mark, Version, Count, Length, Kind, Value}
 use Rattle.form.specs.declared.entries.Entry.{Entry}
-use Rattle.form.specs.declared.faults.Fault.{Fault}
-use Rattle.form.specs.declared.faults.Fault.TheVariants.{Sound, Short, Mark, Version, Count, Length, Kind, Value}
 use Rattle.form.proofs.Faulty.{fault_stops, fault_next, one_of, both_sound, head_passed}
 use Rattle.pieces.proofs.Parts.{head_not_eleven, forms_not_eleven}
 use Rattle.reader.specs.Handing.{well_formed, found_at, place_after, handed_at}

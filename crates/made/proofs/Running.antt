@@ -16,9 +16,8 @@ use Rattle.chip.specs.declared.state.State.{State}
 use Rattle.permit.specs.Permission.{may_write}
 use Rattle.burn.specs.Burning.{Left, burnt, kept}
 use Rattle.form.specs.Entries.{version_of, count_of, entry_at, entries_of}
-use Rattle.form.specs.Faults.{fault_of}
+use Rattle.form.specs.Faults.{fault_of, Sound}
 use Rattle.form.specs.declared.entries.Entry.{Entry}
-use Rattle.form.specs.declared.faults.Fault.TheVariants.{Sound}
 use Rattle.judge.specs.Verdicts.{all_rungs, verdict_of}
 use Rattle.job.specs.Burning.{all_written, all_pulses, all_gained}
 use Rattle.job.specs.Jobs.{run_job}

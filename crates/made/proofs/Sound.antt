@@ -9,10 +9,9 @@ use lib.ListN.{length, take}
 use lib.Seq.{length-take-le}
 use Rattle.chip.specs.Slices.{row_at}
 use Rattle.form.specs.Entries.{version_of, count_of, entries_of}
-use Rattle.form.specs.Faults.{fault_number, head_fault, form_faults, order_faults, fault_under, rule_of, fault_of}
+use Rattle.form.specs.Faults.{fault_number, head_fault, form_faults, order_faults, fault_under, rule_of, fault_of, Sound}
 use Rattle.form.specs.Writing.{with_job}
 use Rattle.form.specs.declared.entries.Entry.{Entry}
-use Rattle.form.specs.declared.faults.Fault.TheVariants.{Sound}
 use Rattle.form.proofs.Faulty.{order_last}
 use Rattle.form.proofs.WholeJob.{AllFit, job_head, job_entries, job_front, job_sound}
 use Rattle.maker.specs.Images.{changes}

@@ -10,10 +10,8 @@ use borrow.Author.Tests.{ltb-true, ltb-false, eqb-false, le-ltb}
 use lib.Dec.{eqb, ltb}
 use Rattle.std.specs.Prelude.{if◌then◌else◌}
 use Rattle.form.specs.Entries.{byte_at, version_of, count_of, entry_at, entries_from}
-use Rattle.form.specs.Faults.{◌otherwise◌}
+use Rattle.form.specs.Faults.{◌otherwise◌, Fault, Sound}
 use Rattle.form.specs.declared.entries.Entry.{Entry}
-use Rattle.form.specs.declared.faults.Fault.{Fault}
-use Rattle.form.specs.declared.faults.Fault.TheVariants.{Sound}
 use Rattle.form.proofs.ReadBack.{entry_alike, head_alike}
 use Rattle.lead.specs.Early.{head_brought, entry_faults, entries_brought, brought}
 use Rattle.lead.specs.Notes.{ended_of, begun_of, ended_in, begun_in, least_of}

@@ -14,8 +14,7 @@ use Rattle.answer.proofs.Ladders.{never_zero}
 use Rattle.answer.specs.declared.answers.Condition.TheVariants.{Clean}
 use Rattle.answer.specs.declared.answers.Polarity.TheVariants.{Plain}
 use Rattle.form.specs.Entries.{byte_at}
-use Rattle.form.specs.Faults.{fault_number}
-use Rattle.form.specs.declared.faults.Fault.{Fault}
+use Rattle.form.specs.Faults.{fault_number, Fault}
 use Rattle.form.proofs.Faulty.{one_of}
 use Rattle.form.proofs.Putting.{length_stays, before_stays, after_stays, put_stands}
 use Rattle.lead.specs.Early.{early_fault}

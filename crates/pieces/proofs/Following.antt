@@ -14,8 +14,7 @@ use Rattle.std.specs.Prelude.{if◌then◌else◌}
 use Rattle.answer.proofs.Choices.{both_ways}
 use Rattle.chip.proofs.Lists.{length_listed, listed_at}
 use Rattle.form.specs.Entries.{byte_at, count_of, entry_at}
-use Rattle.form.specs.Faults.{fault_number}
-use Rattle.form.specs.declared.faults.Fault.TheVariants.{Sound}
+use Rattle.form.specs.Faults.{fault_number, Sound}
 use Rattle.form.proofs.Putting.{length_stays, before_stays, put_stands}
 use Rattle.lead.specs.Early.{brought}
 use Rattle.lead.specs.Notes.{start_of, stop_of, stored, begun_before, Fits, so_far, ended_in, begun_in, part_byte, part_of, noted}

@@ -11,9 +11,7 @@ use lib.Dec.{eqb}
 use Rattle.answer.proofs.Choices.{both_ways}
 use Rattle.answer.proofs.Ladders.{never_zero}
 use Rattle.form.specs.Entries.{entry_at, entries_from}
-use Rattle.form.specs.Faults.{fault_number, ◌otherwise◌, form_fault, form_faults, row_fault, order_faults}
-use Rattle.form.specs.declared.faults.Fault.{Fault}
-use Rattle.form.specs.declared.faults.Fault.TheVariants.{Sound}
+use Rattle.form.specs.Faults.{fault_number, ◌otherwise◌, form_fault, form_faults, row_fault, order_faults, Fault, Sound}
 use Rattle.form.proofs.Faulty.{both_sound}
 use Rattle.lead.specs.Early.{entry_faults}
 use Rattle.lead.proofs.InTurn.{grouped}

@@ -16,10 +16,8 @@ use Rattle.chip.specs.Slices.{row_at, too_large}
 use Rattle.chip.specs.declared.state.State.{State}
 use Rattle.burn.specs.Burning.{Left}
 use Rattle.form.specs.Entries.{count_of, entries_of}
-use Rattle.form.specs.Faults.{fault_number, head_fault, rule_of, fault_of}
+use Rattle.form.specs.Faults.{fault_number, head_fault, rule_of, fault_of, Fault, Sound}
 use Rattle.form.specs.declared.entries.Entry.{Entry}
-use Rattle.form.specs.declared.faults.Fault.{Fault}
-use Rattle.form.specs.declared.faults.Fault.TheVariants.{Sound}
 use Rattle.form.proofs.Faulty.{one_of, zero_sound}
 use Rattle.judge.specs.Verdicts.{unfit, all_rungs, entry_rungs, verdict_of}
 use Rattle.job.specs.Jobs.{run_job}

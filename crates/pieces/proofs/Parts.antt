@@ -12,10 +12,8 @@ use Rattle.answer.proofs.Choices.{both_ways}
 use Rattle.answer.proofs.Ladders.{never_zero}
 use Rattle.chip.specs.Pages.{is_lock_row}
 use Rattle.form.specs.Entries.{byte_at, version_of, count_of, entry_at, entries_of}
-use Rattle.form.specs.Faults.{fault_number, marked, head_fault, form_fault, form_faults, order_fault, locking_fault, row_fault, rule_of, fault_of}
+use Rattle.form.specs.Faults.{fault_number, marked, head_fault, form_fault, form_faults, order_fault, locking_fault, row_fault, rule_of, fault_of, Fault, Sound, Short, Mark, Version, Count, Length, Kind, Value, High, Kept, Past, Coded, Late, Order}
 use Rattle.form.specs.declared.entries.Entry.{Entry}
-use Rattle.form.specs.declared.faults.Fault.{Fault}
-use Rattle.form.specs.declared.faults.Fault.TheVariants.{Sound, Short, Mark, Version, Count, Length, Kind, Value, High, Kept, Past, Coded, Late, Order}
 use Rattle.form.proofs.Faulty.{head_passed, head_stops}
 use Rattle.pieces.proofs.InTurn.{none_given, form, forms_turn}
 

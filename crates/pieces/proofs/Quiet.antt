@@ -10,9 +10,7 @@ use lib.Dec.{ltb}
 use lib.ListN.{length}
 use Rattle.answer.proofs.Ladders.{never_zero}
 use Rattle.form.specs.Entries.{byte_at, version_of, count_of}
-use Rattle.form.specs.Faults.{◌otherwise◌, head_fault, rule_of, fault_under, fault_of}
-use Rattle.form.specs.declared.faults.Fault.{Fault}
-use Rattle.form.specs.declared.faults.Fault.TheVariants.{Sound, Mark, Version, Count, Length}
+use Rattle.form.specs.Faults.{◌otherwise◌, head_fault, rule_of, fault_under, fault_of, Fault, Sound, Mark, Version, Count, Length}
 use Rattle.form.proofs.Faulty.{both_sound, head_passed}
 use Rattle.lead.specs.Early.{came, spoils, unknown_version, large_count, head_brought, entries_brought, past_brought, brought}
 use Rattle.lead.specs.Notes.{ended_of, ended_in}

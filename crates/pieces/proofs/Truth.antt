@@ -15,9 +15,7 @@ use Rattle.answer.proofs.Ladders.{never_zero}
 use Rattle.chip.specs.Slices.{not_whole}
 use Rattle.chip.specs.declared.state.State.{State}
 use Rattle.form.specs.Entries.{byte_at, version_of, count_of, entry_at, entries_of}
-use Rattle.form.specs.Faults.{fault_number, ◌otherwise◌, head_fault, form_faults, order_faults, rule_of, fault_of}
-use Rattle.form.specs.declared.faults.Fault.{Fault}
-use Rattle.form.specs.declared.faults.Fault.TheVariants.{Sound}
+use Rattle.form.specs.Faults.{fault_number, ◌otherwise◌, head_fault, form_faults, order_faults, rule_of, fault_of, Fault, Sound}
 use Rattle.form.proofs.Faulty.{one_of, form_stops_all, head_sound, forms_sound, order_sound}
 use Rattle.burn.specs.Burning.{Left}
 use Rattle.judge.specs.Verdicts.{verdict_of}

@@ -13,8 +13,7 @@ use Rattle.std.specs.Prelude.{if◌then◌else◌}
 use Rattle.chip.specs.declared.state.State.{State}
 use Rattle.burn.specs.Burning.{kept}
 use Rattle.form.specs.Entries.{version_of, count_of}
-use Rattle.form.specs.Faults.{fault_number, marked, head_fault, rule_of, fault_of}
-use Rattle.form.specs.declared.faults.Fault.TheVariants.{Sound, Mark, Version, Count, Length}
+use Rattle.form.specs.Faults.{fault_number, marked, head_fault, rule_of, fault_of, Sound, Mark, Version, Count, Length}
 use Rattle.judge.specs.Verdicts.{verdict_of}
 use Rattle.job.specs.Jobs.{run_job}
 use Rattle.lead.specs.Ending.{end_job}

@@ -3,8 +3,7 @@ use Rattle.std.specs.Prelude.{ℕ, ◌+◌, ◌-◌, ◌*◌, ◌≤◌, ◌<◌
 use Rattle.std.specs.Prelude.{if◌then◌else◌}
 use Rattle.chip.specs.declared.state.State.{State}
 use Rattle.form.specs.Entries.{count_of, entry_at}
-use Rattle.form.specs.Faults.{fault_number, ◌otherwise◌, form_fault, row_fault, rule_of}
-use Rattle.form.specs.declared.faults.Fault.{Fault}
+use Rattle.form.specs.Faults.{fault_number, ◌otherwise◌, form_fault, row_fault, rule_of, Fault}
 use Rattle.job.specs.Jobs.{run_job}
 use Rattle.lead.specs.Early.{brought}
 use Rattle.lead.specs.Notes.{ended_in}

@@ -1,31 +1,31 @@
 -- `form::faults::form_faults` meets its contract. The invariant: the entries that are left have the first fault of the whole.
 -- Assumes nothing.
-use mathlib.Core.Path.{sym, ap, ◌∙◌}
-use native.Mathlib.Omega.{arith}
-use Rattle.form.specs.Faults.{fault_number, form_fault, form_faults}
-use Rattle.form.proofs.Faulty.{form_stops, form_next}
+use Rattle.std.proofs.Common.{◌≡◌, sym, ap, ◌∙◌, arith, rules}
+use Rattle.form.specs.Entries.{entries_from}
+use Rattle.form.specs.Faults.{form_fault, form_faults}
+use Rattle.form.specs.Said.{found}
+use Rattle.form.proofs.Judged.{form_stops, form_goes_on}
 use Rattle.form.proofs.Upward.{none_left}
 use Rattle.form.proofs.faults.form_faults.Goals as goal
 
-pub returns-then-fault_number-ne0 : goal.returns-then-fault_number-ne0
-returns-then-fault_number-ne0 c =
+pub returns-in_err-form_fault : goal.returns-in_err-form_fault
+returns-in_err-form_fault c =
     let s = c.args in
     let l = c.loop-i in
-    let fault = c.form_fault-fault.ensures ∙ ap (form_fault l.i) c.entry_at.ensures in
-    let number = c.fault_number.ensures ∙ ap fault_number fault in
-    sym (l.invariant.1 ∙ form_stops s.job.now s.count l.i (omega arith) (λ e. c.if-fault_number-ne0.true (number ∙ e)) ∙ sym fault)
+    let fault = c.in_err-form_fault.field-0.0 in
+    let whole : form_faults 0 (entries_from s.job.now 0 s.count) ≡ found fault =
+    l.invariant ∙ form_stops s.job.now s.count l.i (omega arith) fault (c.in_err-form_fault.ensures ∙ ap (form_fault l.i) c.entry_at.ensures) in
+    search rules
 
 pub loop-i-preserved : goal.loop-i-preserved
 loop-i-preserved c =
     let s = c.args in
     let l = c.loop-i in
-    let fault = c.form_fault-fault.ensures ∙ ap (form_fault l.i) c.entry_at.ensures in
-    let number = c.fault_number.ensures ∙ ap fault_number fault in
-    (omega arith, l.invariant.1 ∙ form_next s.job.now s.count l.i (omega arith) (sym number ∙ c.if-fault_number-ne0.false))
+    l.invariant ∙ form_goes_on s.job.now s.count l.i (omega arith) (c.in_ok-form_fault.ensures ∙ ap (form_fault l.i) c.entry_at.ensures)
 
 pub returns : goal.returns
 unfolding form_faults
 returns c =
     let s = c.args in
     let l = c.loop-i in
-    sym (l.invariant.1 ∙ ap (form_faults l.i) (none_left s.job.now s.count l.i (omega arith)))
+    sym (l.invariant ∙ ap (form_faults l.i) (none_left s.job.now s.count l.i (omega arith)))

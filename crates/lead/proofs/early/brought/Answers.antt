@@ -4,8 +4,7 @@ use mathlib.Core.Path.{◌≡◌, sym, ap, subst, ◌∙◌}
 use mathlib.Core.List.{List}
 use Prim.Native.Nat.{ℕ, ◌-◌}
 use Rattle.form.specs.Entries.{count_of, entries_from}
-use Rattle.form.specs.Faults.{fault_number}
-use Rattle.form.specs.declared.faults.Fault.{Fault}
+use Rattle.form.specs.Faults.{fault_number, Fault}
 use Rattle.lead.specs.Early.{head_brought, entry_faults, past_brought}
 use Rattle.lead.specs.Notes.{start_of, ended_of, over, Fits}
 use Rattle.lead.specs.declared.so_far.Begun.{Begun}

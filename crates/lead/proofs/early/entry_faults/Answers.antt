@@ -4,9 +4,8 @@ use mathlib.Core.Path.{sym, ap, ◌∙◌}
 use Prim.Native.Nat.{ℕ, ◌+◌, ◌-◌, ◌≤◌}
 use native.Mathlib.Omega.{arith}
 use Rattle.form.specs.Entries.{entries_from}
-use Rattle.form.specs.Faults.{fault_number, ◌otherwise◌, form_fault, row_fault}
+use Rattle.form.specs.Faults.{fault_number, ◌otherwise◌, form_fault, row_fault, Fault}
 use Rattle.form.specs.declared.entries.Entry.{Entry}
-use Rattle.form.specs.declared.faults.Fault.{Fault}
 use Rattle.form.proofs.Faulty.{both_sound, zero_sound}
 use Rattle.form.proofs.Placed.{placed_low, row_kept}
 use Rattle.lead.specs.Early.{entry_faults}

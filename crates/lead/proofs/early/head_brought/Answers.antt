@@ -5,7 +5,7 @@ use mathlib.Core.Bool.{Bool, false}
 use mathlib.Core.List.{List}
 use Prim.Native.Nat.{ℕ}
 use Rattle.std.specs.Prelude.{if◌then◌else◌}
-use Rattle.form.specs.declared.faults.Fault.TheVariants.{Sound, Mark, Version, Count}
+use Rattle.form.specs.Faults.{Sound, Mark, Version, Count}
 use Rattle.lead.specs.Early.{spoils, unknown_version, large_count, head_brought}
 use Rattle.lead.proofs.early.head_brought.Goals as goal
 
