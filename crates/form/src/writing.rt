@@ -5,14 +5,13 @@ ghost use Rattle.form.specs.Writing as spec;
 
 use crate::entries::Entry;
 
-// Puts a number's low byte.
+// Puts a number's low byte. By `get_mut` the proof does not close: of None its contract leaves the bytes open.
 fn put(job: &mut [u8], at: usize, number: u32)
     ensures { job.new ≡ set job.old at (number % 256) }
 {
-    if job.len() <= at {
-        return;
+    if at < job.len() {
+        job[at] = (number % 256) as u8;
     }
-    job[at] = (number % 256) as u8;
 }
 
 // Puts a number of 16 bits.
