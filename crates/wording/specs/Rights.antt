@@ -5,16 +5,18 @@ use Rattle.permit.specs.Keys.{hidden}
 use Rattle.permit.specs.Permission.{may_read, may_write, caller_level, row_key_level}
 use Rattle.chip.specs.declared.state.State.{State}
 use Rattle.wording.specs.declared.levels.Levels.{Levels}
+use Rattle.wording.specs.declared.rights.May.{May}
+use Rattle.wording.specs.declared.rights.May.TheVariants.{Nothing, Read, ReadAndWrite}
 use Rattle.wording.specs.declared.rights.Rights.{Rights}
 
--- 2 read and write, 1 read, 0 nothing
-abbrev pub allowed : State → ℕ → ℕ → ℕ
-allowed state caller row = if may_write state caller row then 2 else if may_read state caller row then 1 else 0
+-- read and write, read, or nothing
+abbrev pub allowed : State → ℕ → ℕ → May
+allowed state caller row = if may_write state caller row then ReadAndWrite else if may_read state caller row then Read else Nothing
 
 -- a row of a valid key answers nobody
 abbrev pub rights_of : State → ℕ → Rights
 rights_of state row =
-    if hidden state row then record { secure = 0; nonsecure = 0; bootloader = 0 }
+    if hidden state row then record { secure = Nothing; nonsecure = Nothing; bootloader = Nothing }
     else record { secure = allowed state 0 row; nonsecure = allowed state 1 row; bootloader = allowed state 2 row }
 
 -- the caller's level, Secure's, and the key level

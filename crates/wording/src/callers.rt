@@ -1,21 +1,30 @@
 // The callers by their names (document 01, "What the library models"; request 2026-05).
 use chip::callers::{BOOTLOADER, NONSECURE, SECURE};
-use screen::print;
+use std::fmt;
 
 // "bootloader", as in "bootloader level 2".
-pub fn name(caller: u32) {
-    match caller {
-        SECURE => print::text(b"Secure"),
-        NONSECURE => print::text(b"Non-secure"),
-        _ => print::text(b"bootloader"),
+#[derive(Clone, Copy)]
+pub struct Name(pub u32);
+
+impl fmt::Display for Name {
+    fn fmt<W: fmt::Write>(&self, f: &mut fmt::Formatter<W>) -> fmt::Result {
+        f.write_str(match self.0 {
+            SECURE => "Secure",
+            NONSECURE => "Non-secure",
+            _ => "bootloader",
+        })
     }
 }
 
 // ", by the bootloader"
-pub fn by(caller: u32) {
-    print::text(b", by ");
-    if caller == BOOTLOADER {
-        print::text(b"the ");
+#[derive(Clone, Copy)]
+pub struct By(pub u32);
+
+impl fmt::Display for By {
+    fn fmt<W: fmt::Write>(&self, f: &mut fmt::Formatter<W>) -> fmt::Result {
+        if self.0 == BOOTLOADER {
+            return write!(f, ", by the {}", Name(self.0));
+        }
+        write!(f, ", by {}", Name(self.0))
     }
-    name(caller);
 }

@@ -1,38 +1,32 @@
 // What an ECC read that is done says of its row, in words: what it repaired, the polarity, and whether the flag bits, 23 and 22, disagree
 // (document 01, "A row with ECC").
 use answer::answers::{Answer, Condition, Polarity};
-use screen::print;
+use std::fmt;
 
-fn polarity_words(polarity: Polarity) {
+fn polarity_words(polarity: Polarity) -> &'static str {
     match polarity {
-        Polarity::Plain => print::text(b", plain"),
-        Polarity::Inverted => print::text(b", inverted"),
+        Polarity::Plain => "plain",
+        Polarity::Inverted => "inverted",
     }
 }
 
-fn flag_words() {
-    print::text(b"flag worn: bits 23 and 22 disagree");
-}
-
 // "repaired bit 8, inverted". A row whose flag bits disagree is always read as plain, so its words do not say so.
-pub fn words(answer: Answer) {
-    let condition = answer.condition;
-    let polarity = answer.polarity;
-    match condition {
-        Condition::Clean => {
-            print::text(b"clean");
-            polarity_words(polarity);
-        }
-        Condition::Repaired(place) => {
-            print::number_after(b"repaired bit ", place);
-            polarity_words(polarity);
-        }
-        Condition::FlagWorn => {
-            flag_words();
-        }
-        Condition::FlagWornRepaired(place) => {
-            flag_words();
-            print::number_after(b"; repaired bit ", place);
+#[derive(Clone, Copy)]
+pub struct Words(pub Answer);
+
+impl fmt::Display for Words {
+    fn fmt<W: fmt::Write>(&self, f: &mut fmt::Formatter<W>) -> fmt::Result {
+        let polarity = polarity_words(self.0.polarity);
+        match self.0.condition {
+            Condition::Clean => write!(f, "clean, {polarity}"),
+            Condition::Repaired(place) => write!(f, "repaired bit {place}, {polarity}"),
+            Condition::FlagWorn => f.write_str("flag worn: bits 23 and 22 disagree"),
+            Condition::FlagWornRepaired(place) => {
+                write!(
+                    f,
+                    "flag worn: bits 23 and 22 disagree; repaired bit {place}"
+                )
+            }
         }
     }
 }

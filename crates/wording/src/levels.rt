@@ -7,10 +7,10 @@ use chip::callers::{BOOTLOADER, SECURE};
 use chip::pages::Page;
 use chip::state::State;
 use permit::permission::{caller_level, row_key_level};
-use screen::print;
+use std::{fmt, io};
 
 // The levels of a row's page: the caller's own, Secure's, and the key level.
-#[derive(Clone, Copy)]
+#[derive(Clone, Copy, Debug, PartialEq, Eq)]
 pub struct Levels {
     pub own: u32,
     pub secure: u32,
@@ -28,41 +28,67 @@ pub fn levels_of(state: State, caller: u32, row: u32) -> Levels
 }
 
 // "   its page has bootloader level 2, Secure level 0 and key level 0": the bootloader runs as Secure, so both levels count.
-fn words(levels: Levels, caller: u32) {
-    print::text(b"   its page has ");
-    callers::name(caller);
-    print::number_after(b" level ", levels.own);
-    if caller == BOOTLOADER {
-        print::number_after(b", Secure level ", levels.secure);
-    }
-    print::number_after(b" and key level ", levels.key);
+#[derive(Clone, Copy)]
+struct OfPage {
+    levels: Levels,
+    caller: u32,
 }
 
-pub fn of_read(levels: Levels, caller: u32) {
-    words(levels, caller);
-    if caller == BOOTLOADER {
-        print::line(b", and a read needs all at most 1");
-        return;
+impl fmt::Display for OfPage {
+    fn fmt<W: fmt::Write>(&self, f: &mut fmt::Formatter<W>) -> fmt::Result {
+        let Levels { own, secure, key } = self.levels;
+        let name = callers::Name(self.caller);
+        write!(f, "   its page has {name} level {own}")?;
+        if self.caller == BOOTLOADER {
+            write!(f, ", Secure level {secure}")?;
+        }
+        write!(f, " and key level {key}")
     }
-    print::line(b", and a read needs both at most 1");
 }
 
 // A lock row goes by the levels of the page that it locks, and by the keys of the page that it stands in (erratum E28).
-fn lock_words(levels: Levels, row: u32) {
-    let owner = Page::owner(row);
-    let keys = Page::key_page(row);
-    print::number_after(b"   page ", owner.number as u32);
-    print::number_after(b", which it locks, has Secure level ", levels.secure);
-    print::number_after(b", page ", keys.number as u32);
-    print::number_after(b" has key level ", levels.key);
+#[derive(Clone, Copy)]
+struct OfLockRow {
+    levels: Levels,
+    row: u32,
+}
+
+impl fmt::Display for OfLockRow {
+    fn fmt<W: fmt::Write>(&self, f: &mut fmt::Formatter<W>) -> fmt::Result {
+        let Levels {
+            own: _,
+            secure,
+            key,
+        } = self.levels;
+        let owner = Page::owner(self.row).number;
+        let keys = Page::key_page(self.row).number;
+        write!(
+            f,
+            "   page {owner}, which it locks, has Secure level {secure}, page {keys} has key level {key}"
+        )
+    }
+}
+
+pub fn of_read(rt: &HostRuntime, levels: Levels, caller: u32) -> io::Result<()> {
+    let all = if caller == BOOTLOADER { "all" } else { "both" };
+    println!(rt;
+        "{}, and a read needs {all} at most 1",
+        OfPage { levels, caller }
+    )
 }
 
 // A job's entries are written by Secure.
-pub fn of_entry(levels: Levels, row: u32) {
+pub fn of_entry(rt: &HostRuntime, levels: Levels, row: u32) -> io::Result<()> {
     if Page::FIRST_LOCK_ROW <= row {
-        lock_words(levels, row);
+        print!(rt; "{}", OfLockRow { levels, row })?;
     } else {
-        words(levels, SECURE);
+        print!(rt;
+            "{}",
+            OfPage {
+                levels,
+                caller: SECURE
+            }
+        )?;
     }
-    print::line(b", and a write needs both at 0");
+    println!(rt; ", and a write needs both at 0")
 }

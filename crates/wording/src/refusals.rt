@@ -1,84 +1,77 @@
 // The answers as number and words.
-use screen::print;
+use screen::shown::Row;
+use std::{fmt, io};
 
-// The numbers that have words.
-const LAST: u32 = 14;
+// The words of a number: the one table of them (document 01, "The numbers we answer with"). What a number that stands for several things
+// means here is said behind it.
+#[derive(Clone, Copy)]
+pub struct Words(pub u32);
 
-// The words, where the number is the one that they are of.
-fn one(number: u32, own: u32, words: &[u8]) {
-    if number == own {
-        print::text(words);
-    }
-}
-
-// The one table from a number to its words (document 01, "The numbers we answer with"). What a number that stands for several things means
-// here is said behind it.
-pub fn words(number: u32) {
-    one(number, 0, b"done");
-    one(number, 1, b"the row slice hasn't 4,096 entries");
-    one(
-        number,
-        2,
-        b"row above 4,095, or a vote group that runs past row 4,095",
-    );
-    one(
-        number,
-        3,
-        b"an entry that this call uses is above 16,777,215",
-    );
-    one(number, 4, b"a number that this call does not take");
-    one(
-        number,
-        5,
-        b"ECC on a row from 0xf80 up, or a vote group with any such row",
-    );
-    one(number, 6, b"a row of a latched valid key");
-    one(number, 7, b"the permission rules don't allow it");
-    one(number, 8, b"no value has a code within one bit");
-    one(number, 9, b"neither polarity fits");
-    one(number, 10, b"job bytes malformed");
-    one(number, 11, b"job row out of place");
-    one(number, 12, b"the lent area is too short");
-    one(number, 13, b"a burnt bit that the wanted row lacks");
-    one(number, 14, b"more than 512 rows differ");
-    if LAST < number {
-        print::text(b"a number that has no words here");
+impl fmt::Display for Words {
+    fn fmt<W: fmt::Write>(&self, f: &mut fmt::Formatter<W>) -> fmt::Result {
+        f.write_str(match self.0 {
+            0 => "done",
+            1 => "the row slice hasn't 4,096 entries",
+            2 => "row above 4,095, or a vote group that runs past row 4,095",
+            3 => "an entry that this call uses is above 16,777,215",
+            4 => "a number that this call does not take",
+            5 => "ECC on a row from 0xf80 up, or a vote group with any such row",
+            6 => "a row of a latched valid key",
+            7 => "the permission rules don't allow it",
+            8 => "no value has a code within one bit",
+            9 => "neither polarity fits",
+            10 => "job bytes malformed",
+            11 => "job row out of place",
+            12 => "the lent area is too short",
+            13 => "a burnt bit that the wanted row lacks",
+            14 => "more than 512 rows differ",
+            _ => "a number that has no words here",
+        })
     }
 }
 
 // "9: neither polarity fits"
-pub fn number_and_words(number: u32) {
-    print::number(number);
-    print::text(b": ");
-    words(number);
+#[derive(Clone, Copy)]
+pub struct Numbered(pub u32);
+
+impl fmt::Display for Numbered {
+    fn fmt<W: fmt::Write>(&self, f: &mut fmt::Formatter<W>) -> fmt::Result {
+        write!(f, "{}: {}", self.0, Words(self.0))
+    }
 }
 
 // The same of a list of rows: "11: listed row out of place". The table has 11 in the words of a job, and a list is none (request 2026-11).
-pub fn number_and_list_words(number: u32) {
-    if number == 11 {
-        print::text(b"11: listed row out of place");
-        return;
+#[derive(Clone, Copy)]
+pub struct ListNumbered(pub u32);
+
+impl fmt::Display for ListNumbered {
+    fn fmt<W: fmt::Write>(&self, f: &mut fmt::Formatter<W>) -> fmt::Result {
+        if self.0 == 11 {
+            return f.write_str("11: listed row out of place");
+        }
+        write!(f, "{}", Numbered(self.0))
     }
-    number_and_words(number);
+}
+
+// ", row 0x0c3"
+#[derive(Clone, Copy)]
+pub struct OfRow(pub u32);
+
+impl fmt::Display for OfRow {
+    fn fmt<W: fmt::Write>(&self, f: &mut fmt::Formatter<W>) -> fmt::Result {
+        write!(f, ", row {}", Row(self.0))
+    }
 }
 
 // "4: a number that this call does not take: vote count neither 3 nor 8"
-pub fn because(number: u32, reason: &[u8]) {
-    number_and_words(number);
-    print::text(b": ");
-    print::line(reason);
-}
-
-pub fn of_row(row: u32) {
-    print::text(b", row ");
-    print::row(row);
+pub fn because(rt: &HostRuntime, number: u32, reason: &str) -> io::Result<()> {
+    println!(rt; "{}: {reason}", Numbered(number))
 }
 
 // An answer on one row.
-pub fn row(number: u32, row: u32) {
-    number_and_words(number);
-    if number != 0 {
-        of_row(row);
+pub fn row(rt: &HostRuntime, number: u32, row: u32) -> io::Result<()> {
+    if number == 0 {
+        return println!(rt; "{}", Numbered(number));
     }
-    print::end();
+    println!(rt; "{}{}", Numbered(number), OfRow(row))
 }

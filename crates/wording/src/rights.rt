@@ -6,26 +6,45 @@ use chip::callers::{BOOTLOADER, NONSECURE, SECURE};
 use chip::state::State;
 use permit::keys::hidden;
 use permit::permission::{may_read, may_write};
+use std::fmt;
 
-// Of each caller: 0 nothing, 1 read, 2 read and write.
-#[derive(Clone, Copy)]
+// What a caller may do.
+#[derive(Clone, Copy, Debug, PartialEq, Eq)]
+pub enum May {
+    Nothing,
+    Read,
+    ReadAndWrite,
+}
+
+impl fmt::Display for May {
+    fn fmt<W: fmt::Write>(&self, f: &mut fmt::Formatter<W>) -> fmt::Result {
+        f.write_str(match self {
+            May::Nothing => "may neither read nor write",
+            May::Read => "may read",
+            May::ReadAndWrite => "may read and write",
+        })
+    }
+}
+
+// What each caller may do.
+#[derive(Clone, Copy, Debug, PartialEq, Eq)]
 pub struct Rights {
-    pub secure: u32,
-    pub nonsecure: u32,
-    pub bootloader: u32,
+    pub secure: May,
+    pub nonsecure: May,
+    pub bootloader: May,
 }
 
 // What a caller may do with a row that is no valid key's.
-fn allowed(state: State, caller: u32, row: u32) -> u32
+fn allowed(state: State, caller: u32, row: u32) -> May
     ensures { result ≡ spec.allowed state caller row }
 {
     if may_write(state, caller, row) {
-        return 2;
+        return May::ReadAndWrite;
     }
     if may_read(state, caller, row) {
-        return 1;
+        return May::Read;
     }
-    0
+    May::Nothing
 }
 
 // A row of a valid key answers nobody.
@@ -34,9 +53,9 @@ pub fn rights_of(state: State, row: u32) -> Rights
 {
     if hidden(state, row) {
         return Rights {
-            secure: 0,
-            nonsecure: 0,
-            bootloader: 0,
+            secure: May::Nothing,
+            nonsecure: May::Nothing,
+            bootloader: May::Nothing,
         };
     }
     Rights {

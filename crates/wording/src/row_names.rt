@@ -1,141 +1,78 @@
 // The datasheet's names of the rows (13.10, "Predefined OTP data locations"), each after some blanks. A row that has none is passed over in silence.
-ghost use Rattle.std.specs.Prelude.{◌≤◌, ◌<◌};
+use std::fmt;
 
-use screen::print;
-
-fn named(blanks: usize, name: &[u8]) {
-    print::blanks(blanks);
-    print::text(name);
+// A name, and what stands behind it.
+#[derive(Clone, Copy)]
+enum Name {
+    // "ROSC_CALIB"
+    Alone(&'static str),
+    // "CHIPID3": one of several rows, counted from 0
+    Numbered(&'static str, u32),
+    // "CRIT0", and "CRIT0_R1" for its first redundant copy
+    Copied(&'static str, u32, u32),
+    // "KEY1_0"
+    Pair(&'static str, u32, &'static str, u32),
+    // "KEY1_VALID"
+    Valid(u32),
 }
 
-// "CHIPID3"
-fn numbered(blanks: usize, name: &[u8], n: u32) {
-    named(blanks, name);
-    print::number(n);
-}
-
-// "KEY1_0"
-fn of_pair(blanks: usize, name: &[u8], n: u32, between: &[u8], m: u32) {
-    numbered(blanks, name, n);
-    print::number_after(between, m);
-}
-
-// A name, where the row is its own.
-fn one(blanks: usize, row: u32, own: u32, name: &[u8]) {
-    if row == own {
-        named(blanks, name);
-    }
-}
-
-// A name that several rows have, counted from 0, where the row is one of them.
-fn several(blanks: usize, row: u32, first: u32, last: u32, name: &[u8]) {
-    if first <= row {
-        if row <= last {
-            numbered(blanks, name, row - first);
+impl fmt::Display for Name {
+    fn fmt<W: fmt::Write>(&self, f: &mut fmt::Formatter<W>) -> fmt::Result {
+        match *self {
+            Name::Alone(name) => f.write_str(name),
+            Name::Numbered(name, n) => write!(f, "{name}{n}"),
+            Name::Copied(name, n, 0) => write!(f, "{name}{n}"),
+            Name::Copied(name, n, copy) => write!(f, "{name}{n}_R{copy}"),
+            Name::Pair(name, n, between, m) => write!(f, "{name}{n}{between}{m}"),
+            Name::Valid(key) => write!(f, "KEY{key}_VALID"),
         }
     }
 }
 
-// A redundant copy of a row is its name with "_R1" and so on behind it.
-fn copy(m: u32) {
-    if 0 < m {
-        print::number_after(b"_R", m);
-    }
+// The name of a row: of the identifiers and what was measured when the chip was made, to 0x037; of flags with their copies, to 0x053; of what
+// the boot goes by, to 0x0bf; of the keys, their valid flags and the locks, from 0xf48 on.
+fn name_of(row: u32) -> Option<Name> {
+    let name = match row {
+        0x000..=0x003 => Name::Numbered("CHIPID", row),
+        0x004..=0x00b => Name::Numbered("RANDID", row - 0x004),
+        0x010 => Name::Alone("ROSC_CALIB"),
+        0x011 => Name::Alone("LPOSC_CALIB"),
+        0x018 => Name::Alone("NUM_GPIOS"),
+        0x036 | 0x037 => Name::Numbered("INFO_CRC", row - 0x036),
+        0x038..=0x047 => Name::Copied("CRIT", (row - 0x038) / 8, row % 8),
+        0x048..=0x04d => Name::Copied("BOOT_FLAGS", (row - 0x048) / 3, row % 3),
+        0x04e..=0x053 => Name::Copied("DEFAULT_BOOT_VERSION", (row - 0x04e) / 3, row % 3),
+        0x054 => Name::Alone("FLASH_DEVINFO"),
+        0x055 => Name::Alone("FLASH_PARTITION_SLOT_SIZE"),
+        0x056 => Name::Alone("BOOTSEL_LED_CFG"),
+        0x057 => Name::Alone("BOOTSEL_PLL_CFG"),
+        0x058 => Name::Alone("BOOTSEL_XOSC_CFG"),
+        0x059 => Name::Alone("USB_BOOT_FLAGS"),
+        0x05a => Name::Alone("USB_BOOT_FLAGS_R1"),
+        0x05b => Name::Alone("USB_BOOT_FLAGS_R2"),
+        0x05c => Name::Alone("USB_WHITE_LABEL_ADDR"),
+        0x05e => Name::Alone("OTPBOOT_SRC"),
+        0x05f => Name::Alone("OTPBOOT_LEN"),
+        0x060 | 0x061 => Name::Numbered("OTPBOOT_DST", row - 0x060),
+        0x080..=0x0bf => Name::Pair("BOOTKEY", (row - 0x080) / 16, "_", row % 16),
+        0xf48..=0xf77 => Name::Pair("KEY", (row - 0xf48) / 8 + 1, "_", row % 8),
+        0xf79..=0xf7e => Name::Valid(row - 0xf78),
+        0xf80..=0xfff => Name::Pair("PAGE", (row - 0xf80) / 2, "_LOCK", row % 2),
+        _ => return None,
+    };
+    Some(name)
 }
 
-// Flags of which each has so many rows: itself and its copies.
-fn flags(blanks: usize, name: &[u8], past: u32, each: u32)
-    requires { 0 < each }
-{
-    numbered(blanks, name, past / each);
-    copy(past % each);
-}
+// The name of a row after so many blanks: "  CHIPID3".
+#[derive(Clone, Copy)]
+pub struct After(pub usize, pub u32);
 
-// Rows 0x000 to 0x037: the identifiers, and what was measured when the chip was made.
-fn of_chip(blanks: usize, row: u32) {
-    several(blanks, row, 0x000, 0x003, b"CHIPID");
-    several(blanks, row, 0x004, 0x00b, b"RANDID");
-    one(blanks, row, 0x010, b"ROSC_CALIB");
-    one(blanks, row, 0x011, b"LPOSC_CALIB");
-    one(blanks, row, 0x018, b"NUM_GPIOS");
-    several(blanks, row, 0x036, 0x037, b"INFO_CRC");
-}
-
-// Rows 0x054 to 0x07f: what the boot goes by.
-fn of_boot(blanks: usize, row: u32) {
-    one(blanks, row, 0x054, b"FLASH_DEVINFO");
-    one(blanks, row, 0x055, b"FLASH_PARTITION_SLOT_SIZE");
-    one(blanks, row, 0x056, b"BOOTSEL_LED_CFG");
-    one(blanks, row, 0x057, b"BOOTSEL_PLL_CFG");
-    one(blanks, row, 0x058, b"BOOTSEL_XOSC_CFG");
-    one(blanks, row, 0x059, b"USB_BOOT_FLAGS");
-    one(blanks, row, 0x05a, b"USB_BOOT_FLAGS_R1");
-    one(blanks, row, 0x05b, b"USB_BOOT_FLAGS_R2");
-    one(blanks, row, 0x05c, b"USB_WHITE_LABEL_ADDR");
-    one(blanks, row, 0x05e, b"OTPBOOT_SRC");
-    one(blanks, row, 0x05f, b"OTPBOOT_LEN");
-    several(blanks, row, 0x060, 0x061, b"OTPBOOT_DST");
-}
-
-// Rows 0x038 to 0x053: flags with their copies.
-fn of_flags(blanks: usize, row: u32)
-    requires { (0x038 ≤ row) × (row < 0x054) }
-{
-    if row < 0x048 {
-        flags(blanks, b"CRIT", row - 0x038, 8);
-        return;
-    }
-    if row < 0x04e {
-        flags(blanks, b"BOOT_FLAGS", row - 0x048, 3);
-        return;
-    }
-    flags(blanks, b"DEFAULT_BOOT_VERSION", row - 0x04e, 3);
-}
-
-// Rows 0x000 to 0x0bf.
-fn of_low(blanks: usize, row: u32) {
-    if row < 0x038 {
-        of_chip(blanks, row);
-        return;
-    }
-    if row < 0x054 {
-        of_flags(blanks, row);
-        return;
-    }
-    if row < 0x080 {
-        of_boot(blanks, row);
-        return;
-    }
-    of_pair(blanks, b"BOOTKEY", (row - 0x080) / 16, b"_", row % 16);
-}
-
-// Rows 0xf48 to 0xfff: the keys, their valid flags, and the locks.
-fn of_high(blanks: usize, row: u32)
-    requires { (0xf48 ≤ row) × (row < 0x1000) }
-{
-    if row < 0xf78 {
-        of_pair(blanks, b"KEY", (row - 0xf48) / 8 + 1, b"_", row % 8);
-        return;
-    }
-    if 0xf80 <= row {
-        of_pair(blanks, b"PAGE", (row - 0xf80) / 2, b"_LOCK", row % 2);
-        return;
-    }
-    if row == 0xf78 || row == 0xf7f {
-        return;
-    }
-    numbered(blanks, b"KEY", row - 0xf78);
-    print::text(b"_VALID");
-}
-
-pub fn after(blanks: usize, row: u32) {
-    if row < 0x0c0 {
-        of_low(blanks, row);
-        return;
-    }
-    if 0xf48 <= row {
-        if row < 0x1000 {
-            of_high(blanks, row);
+impl fmt::Display for After {
+    fn fmt<W: fmt::Write>(&self, f: &mut fmt::Formatter<W>) -> fmt::Result {
+        let After(blanks, row) = *self;
+        match name_of(row) {
+            Some(name) => write!(f, "{:blanks$}{name}", ""),
+            None => Ok(()),
         }
     }
 }
