@@ -8,16 +8,14 @@ use crate::coding::flipped;
 fn lowest(bits: u32, n: u32) -> u32
     ensures { result ≡ spec.lowest_below 24 n bits }
 {
-    let mut kept: u32 = 0;
-    let mut passed: u32 = 0;
-    let mut place: u32 = 0;
-    while place < 24 {
+    let mut kept = 0;
+    let mut passed = 0;
+    for place in 0..24u32 {
         let bit = (bits >> place) % 2;
         if passed < n {
             kept += bit << place;
         }
         passed += bit;
-        place += 1;
     }
     kept
 }

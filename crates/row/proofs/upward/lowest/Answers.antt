@@ -16,7 +16,7 @@ use Rattle.row.proofs.upward.lowest.Goals.{then-passed-n, else-passed-n}
 
 pub loop-place-init : goal.loop-place-init
 unfolding lowest_below ones_in
-loop-place-init c = (omega arith, refl, refl)
+loop-place-init c = (refl, refl)
 
 pub overflow_add-kept : goal.overflow_add-kept
 overflow_add-kept c =
@@ -43,14 +43,13 @@ pub loop-place-preserved : goal.loop-place-preserved
 loop-place-preserved c =
     let s = c.args in
     let l = c.loop-place in (
-      omega arith,
       elim c.if-passed-n.branch [
         | then-passed-n w ↦
             w.kept-is
-            ∙ ap₂ ◌+◌ l.invariant.1 (shl_exact 1 l.place 32 (bit_lt l.place s.bits) (omega arith))
-            ∙ sym (lowest_taken l.place s.n s.bits (rw (← l.invariant.2) w.if-passed-n.true))
+            ∙ ap₂ ◌+◌ l.invariant.0 (shl_exact 1 l.place 32 (bit_lt l.place s.bits) (omega arith))
+            ∙ sym (lowest_taken l.place s.n s.bits (rw (← l.invariant.1) w.if-passed-n.true))
         | else-passed-n w ↦
-            w.kept-is ∙ l.invariant.1 ∙ sym (lowest_left l.place s.n s.bits (rw (← l.invariant.2) w.if-passed-n.false))
+            w.kept-is ∙ l.invariant.0 ∙ sym (lowest_left l.place s.n s.bits (rw (← l.invariant.1) w.if-passed-n.false))
       ],
-      ap (λ (n : ℕ). n + bit_at l.place s.bits) l.invariant.2 ∙ sym (ones_more l.place s.bits),
+      ap (λ (n : ℕ). n + bit_at l.place s.bits) l.invariant.1 ∙ sym (ones_more l.place s.bits),
     )
