@@ -5,6 +5,7 @@ ghost use Rattle.chip.specs.Callers as spec;
 use crate::pages::Page;
 use crate::state::{State, counted_level};
 
+// Numbers and no enum, since a call from C may bring any number, and refuses those that are no caller (`no_caller`).
 // The caller by whom writes are made and jobs are run.
 pub const SECURE: u32 = 0;
 
@@ -22,14 +23,10 @@ pub const LAST_DOMAIN: u32 = LAST_CALLER;
 pub fn shown_level(state: State, domain: u32, page: Page) -> u32
     ensures { result ≡ spec.shown_level state domain page.number }
 {
-    if domain == SECURE {
-        let secure = state.secure;
-        return counted_level(secure, page);
-    }
-    if domain == NONSECURE {
-        let nonsecure = state.nonsecure;
-        return counted_level(nonsecure, page);
-    }
-    let bootloader = state.bootloader;
-    counted_level(bootloader, page)
+    let levels = match domain {
+        SECURE => state.secure,
+        NONSECURE => state.nonsecure,
+        _ => state.bootloader,
+    };
+    counted_level(levels, page)
 }

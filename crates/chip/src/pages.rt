@@ -2,8 +2,9 @@
 ghost use Rattle.std.specs.Prelude.{◌≡◌};
 ghost use Rattle.chip.specs.Pages as spec;
 
-// A page by its number. Number 64 is no page.
-#[derive(Clone, Copy)]
+// A page by its number. Number 64 is no page. It is no `Option`: what is counted of a page is promised of every number
+// (`counted_level`, `shown_level`), of those past the last too.
+#[derive(Clone, Copy, Debug, PartialEq, Eq)]
 pub struct Page {
     pub number: u8,
 }
@@ -57,32 +58,24 @@ impl Page {
         Page::FIRST_LOCK_ROW + 1 + 2 * (self.number as u32)
     }
 
-    // The page whose levels a row goes by.
+    // The page whose levels a row goes by: of a lock row the one that it locks, and of any other the one that it is in.
     pub fn owner(row: u32) -> Page
         ensures { result.number ≡ spec.owner row }
     {
-        if Page::LAST_ROW < row {
-            return Page { number: 64 };
-        }
-        if Page::FIRST_LOCK_ROW <= row {
-            return Page {
-                number: ((row - Page::FIRST_LOCK_ROW) / 2) as u8,
-            };
+        if row < Page::FIRST_LOCK_ROW || Page::LAST_ROW < row {
+            return Page::key_page(row);
         }
         Page {
-            number: (row / Page::ROWS) as u8,
+            number: ((row - Page::FIRST_LOCK_ROW) / 2) as u8,
         }
     }
 
-    // The page whose key settings a row goes by.
+    // The page whose key settings a row goes by: the one that it is in, of lock rows too. Past the last row there is no page.
     pub fn key_page(row: u32) -> Page
         ensures { result.number ≡ spec.key_page row }
     {
-        if Page::LAST_ROW < row {
-            return Page { number: 64 };
-        }
         Page {
-            number: (row / Page::ROWS) as u8,
+            number: (row / Page::ROWS).min(Page::COUNT as u32) as u8,
         }
     }
 }

@@ -10,20 +10,16 @@ pub const MOST_HELD: u32 = 16777215;
 pub fn row_at(rows: &[u32], row: u32) -> u32
     ensures { result ≡ spec.row_at rows.now row }
 {
-    let at = row as usize;
-    if rows.len() <= at {
-        return 0;
-    }
-    rows[at]
+    rows.get(row as usize).copied().unwrap_or(0)
 }
 
 // Puts a row into a slice.
 pub fn put(rows: &mut [u32], row: u32, value: u32)
     ensures { rows.new ≡ set rows.old row value }
 {
+    // By index, and not by `get_mut`: of a slice it lent from, a proof knows the length alone.
     let at = row as usize;
-    if rows.len() <= at {
-        return;
+    if at < rows.len() {
+        rows[at] = value;
     }
-    rows[at] = value;
 }

@@ -1,5 +1,5 @@
 // The latched state, which goes in by value and comes back by value, and what is counted of it (document 01).
-ghost use Rattle.std.specs.Prelude.{◌≡◌};
+ghost use Rattle.std.specs.Prelude.{◌≡◌, get_or};
 ghost use Rattle.chip.specs.States as spec;
 
 use crate::pages::Page;
@@ -26,6 +26,7 @@ pub struct Key {
 }
 
 // What the hardware latches at reset, for each page and each key, the key that was entered since, and each page's bits burnt, as they stand.
+// The arrays stand beside each other, and not in a struct of a page, since this is the layout of C's `otp_state`.
 #[repr(C)]
 #[derive(Clone, Copy)]
 pub struct State {
@@ -85,39 +86,26 @@ pub fn refusal(number: u32, state: State) -> Outcome
 pub fn counted_level(levels: Levels, page: Page) -> u32
     ensures { result ≡ spec.counted_level levels page.number }
 {
-    let at = page.number as usize;
-    if Page::COUNT <= at {
-        return 2;
-    }
-    let level = levels[at];
-    if 2 < level {
-        return 2;
-    }
-    level as u32
+    at_page(&levels, page, 2).min(2) as u32
 }
 
 // A key index of a page, counted as 7 where it is above.
 pub fn counted_index(indexes: Indexes, page: Page) -> u32
     ensures { result ≡ spec.counted_index indexes page.number }
 {
-    let at = page.number as usize;
-    if Page::COUNT <= at {
-        return 0;
-    }
-    let index = indexes[at];
-    if 7 < index {
-        return 7;
-    }
-    index as u32
+    at_page(&indexes, page, 0).min(7) as u32
 }
 
 // The no-key state of a page.
 pub fn counted_no_key(nokeys: Flags, page: Page) -> bool
     ensures { result ≡ spec.counted_no_key nokeys page.number }
 {
-    let at = page.number as usize;
-    if Page::COUNT <= at {
-        return false;
-    }
-    nokeys[at]
+    at_page(&nokeys, page, false)
+}
+
+// What is latched of a page, or what stands where there is no page.
+fn at_page<T: Copy>(latched: &[T], page: Page, none: T) -> T
+    ensures { result ≡ get_or latched.now page.number none }
+{
+    latched.get(page.number as usize).copied().unwrap_or(none)
 }
