@@ -3,18 +3,17 @@
 use mathlib.Core.Path.{◌≡◌, refl, sym, ◌∙◌}
 use mathlib.Core.Bool.{Bool, true, false, ◌&&◌, and-false, true≢false}
 use mathlib.Core.List.{List, [], ◌∷◌}
-use Prim.Native.Nat.{ℕ, zero, suc, ◌+◌, ◌*◌, ◌-◌, ◌≤◌, ◌<◌}
-use native.Mathlib.Nat.{le_of_suc-le-suc, not-suc-le-zero, mul-one, mul-le-mul_left}
+use Prim.Native.Nat.{ℕ, ◌+◌, ◌*◌, ◌-◌, ◌≤◌, ◌<◌}
+use native.Mathlib.Nat.{mul-one, mul-le-mul_left}
 use native.Mathlib.Numerals.{add-one}
 use native.Mathlib.Omega.{arith}
-use borrow.Author.Tests.{lt-ltb, le-ltb, le-leb, lt-leb, ltb-true, leb-true}
+use borrow.Author.Tests.{lt-ltb, le-ltb, le-leb, lt-leb, ltb-true, ltb-false, leb-true}
 use lib.Dec.{leb, ltb}
 use lib.ListN.{length, get_or, take, drop, length-drop}
 use lib.Seq.{drop-cons, drop-length, take_all}
-use Rattle.std.specs.Prelude.{if◌then◌else◌}
-use Rattle.typed.specs.Numbers.{within, hexadecimal, digit_of, digits_below, value_with, number_in}
-use Rattle.typed.specs.declared.numbers.Number.{Number}
-use Rattle.typed.specs.declared.numbers.Number.TheVariants.{Is, Not}
+use Rattle.std.proofs.lemmas.List.Recursion.{and_from_places, and_fails_at}
+use Rattle.std.specs.Prelude.{Option, Some, None, if◌then◌else◌}
+use Rattle.typed.specs.Numbers.{within, hexadecimal, digit_of, digit_in, digits_below, value_with, number_in, key_of, key_spelled}
 
 pub both : (a b : Bool) → (a && b) ≡ true → (a ≡ true) × (b ≡ true)
 both true true e = (refl, refl)
@@ -35,35 +34,60 @@ module _ (first last byte : ℕ) where
       go true = lt-leb byte last high
       go false = refl
 
--- what a byte counts, from the lowest up
+-- what a byte counts, by the bytes that it is among
 module _ (byte : ℕ) where
-  pub low_byte : byte < 48 → digit_of byte ≡ 16
-  unfolding digit_of
+  pub decimal_digit : 48 ≤ byte → byte ≤ 57 → digit_in 16 byte ≡ Some (byte - 48)
+  unfolding digit_of digit_in
+  decimal_digit low high = rw (is_within 48 57 byte low high, lt-ltb (byte - 48) 16 (omega arith))
+
+  pub upper_digit : 65 ≤ byte → byte ≤ 70 → digit_in 16 byte ≡ Some (byte - 55)
+  unfolding digit_of digit_in
+  upper_digit low high =
+      rw (above 48 57 byte (omega arith), below 97 102 byte (omega arith), is_within 65 70 byte low high, lt-ltb (byte - 55) 16 (omega arith))
+
+  pub lower_digit : 97 ≤ byte → byte ≤ 102 → digit_in 16 byte ≡ Some (byte - 87)
+  unfolding digit_of digit_in
+  lower_digit low high = rw (above 48 57 byte (omega arith), is_within 97 102 byte low high, lt-ltb (byte - 87) 16 (omega arith))
+
+  pub low_byte : byte < 48 → digit_in 16 byte ≡ None
+  unfolding digit_of digit_in
   low_byte high = rw (below 48 57 byte high, below 97 102 byte (omega arith), below 65 70 byte (omega arith))
 
-  pub decimal_digit : 48 ≤ byte → byte ≤ 57 → digit_of byte ≡ byte - 48
-  unfolding digit_of
-  decimal_digit low high = rw (is_within 48 57 byte low high)
-
-  pub between_byte : 57 < byte → byte < 65 → digit_of byte ≡ 16
-  unfolding digit_of
+  pub between_byte : 57 < byte → byte < 65 → digit_in 16 byte ≡ None
+  unfolding digit_of digit_in
   between_byte low high = rw (above 48 57 byte low, below 97 102 byte (omega arith), below 65 70 byte high)
 
-  pub upper_digit : 65 ≤ byte → byte ≤ 70 → digit_of byte ≡ byte - 55
-  unfolding digit_of
-  upper_digit low high = rw (above 48 57 byte (omega arith), below 97 102 byte (omega arith), is_within 65 70 byte low high)
-
-  pub middle_byte : 70 < byte → byte < 97 → digit_of byte ≡ 16
-  unfolding digit_of
+  pub middle_byte : 70 < byte → byte < 97 → digit_in 16 byte ≡ None
+  unfolding digit_of digit_in
   middle_byte low high = rw (above 48 57 byte (omega arith), below 97 102 byte high, above 65 70 byte low)
 
-  pub lower_digit : 97 ≤ byte → byte ≤ 102 → digit_of byte ≡ byte - 87
-  unfolding digit_of
-  lower_digit low high = rw (above 48 57 byte (omega arith), is_within 97 102 byte low high)
-
-  pub high_byte : 102 < byte → digit_of byte ≡ 16
-  unfolding digit_of
+  pub high_byte : 102 < byte → digit_in 16 byte ≡ None
+  unfolding digit_of digit_in
   high_byte low = rw (above 48 57 byte (omega arith), above 97 102 byte low, above 65 70 byte (omega arith))
+
+pub ruleset counts = (decimal_digit, upper_digit, lower_digit, low_byte, between_byte, middle_byte, high_byte)
+
+-- a byte counts nothing only where it is no digit, and otherwise what it counts as one
+module _ (byte : ℕ) where
+  pub no_digit : digit_in 16 byte ≡ None → 16 ≤ digit_of byte
+  unfolding digit_in
+  no_digit none = go (ltb (digit_of byte) 16) refl none
+    where
+      go : (t : Bool) → ltb (digit_of byte) 16 ≡ t → (if t then Some (digit_of byte) else None) ≡ None → 16 ≤ digit_of byte
+      go true own e = cc
+      go false other e = ltb-false (digit_of byte) 16 other
+
+  pub is_digit : (own : ℕ) → digit_in 16 byte ≡ Some own → (own ≡ digit_of byte) × (own < 16)
+  unfolding digit_in
+  is_digit own some = go (ltb (digit_of byte) 16) refl some
+    where
+      go : (t : Bool) → ltb (digit_of byte) 16 ≡ t → (if t then Some (digit_of byte) else None) ≡ Some own → (own ≡ digit_of byte) × (own < 16)
+      go true below e = let is : own ≡ digit_of byte = cc in (is, rw is (ltb-true (digit_of byte) 16 below))
+      go false other e = cc
+
+  pub some_digit : digit_of byte < 16 → digit_in 16 byte ≡ Some (digit_of byte)
+  unfolding digit_in
+  some_digit below = rw (lt-ltb (digit_of byte) 16 below)
 
 -- what begins with 0x is two bytes long
 pub hexadecimal_long : (text : List ℕ) → hexadecimal text ≡ true → 2 ≤ length text
@@ -75,9 +99,9 @@ pub rest_whole : (n : ℕ) (text : List ℕ) → take (length text - n) (drop n 
 rest_whole n text = take_all (length text - n) (drop n text) (rw (length-drop n text) (omega arith))
 
 -- the number that is left to read after a value
-abbrev pub left : ℕ → ℕ → List ℕ → Number
+abbrev pub left : ℕ → ℕ → List ℕ → Option ℕ
 left base value digits =
-    if digits_below base digits && leb (value_with base value digits) 4294967295 then Is (value_with base value digits) else Not
+    if digits_below base digits && leb (value_with base value digits) 4294967295 then Some (value_with base value digits) else None
 
 -- at the first digit all is left
 pub all_left : (base : ℕ) (digits : List ℕ) → 1 ≤ length digits → number_in base digits ≡ left base 0 (drop 0 digits)
@@ -85,7 +109,7 @@ unfolding number_in
 all_left base digits some = rw (le-leb 1 (length digits) some)
 
 -- no digits, no number
-pub none_spelled : (base : ℕ) (digits : List ℕ) → length digits ≡ 0 → number_in base digits ≡ Not
+pub none_spelled : (base : ℕ) (digits : List ℕ) → length digits ≡ 0 → number_in base digits ≡ None
 unfolding number_in
 none_spelled base digits none = rw (none)
 
@@ -98,14 +122,14 @@ value_grows base value (byte ∷ others) some =
     omega (arith, value_grows base (value * base + digit_of byte) others some, mul-one value)
 
 -- a value that is too large stays so
-pub left_large : (base value : ℕ) (digits : List ℕ) → 1 ≤ base → 4294967295 < value → left base value digits ≡ Not
+pub left_large : (base value : ℕ) (digits : List ℕ) → 1 ≤ base → 4294967295 < value → left base value digits ≡ None
 left_large base value digits some large =
     let too : 4294967295 < value_with base value digits = omega (arith, value_grows base value digits some) in
     rw (lt-leb (value_with base value digits) 4294967295 too, and-false (digits_below base digits))
 
 module _ (base value : ℕ) (digits : List ℕ) (i : ℕ) (h : i < length digits) where
   -- a byte that is no digit of the base
-  pub left_not : base ≤ digit_of (get_or digits i 0) → left base value (drop i digits) ≡ Not
+  pub left_not : base ≤ digit_of (get_or digits i 0) → left base value (drop i digits) ≡ None
   unfolding digits_below
   left_not other = rw (drop-cons digits i 0 h, le-ltb (digit_of (get_or digits i 0)) base other)
 
@@ -121,32 +145,25 @@ module _ (base value : ℕ) (digits : List ℕ) (i : ℕ) (h : i < length digits
 
 -- and where the value is too large with it, there is no number
 pub left_over : (base value : ℕ) (digits : List ℕ) (i : ℕ) → i < length digits → digit_of (get_or digits i 0) < base
-    → 4294967295 < value * base + digit_of (get_or digits i 0) → left base value (drop i digits) ≡ Not
+    → 4294967295 < value * base + digit_of (get_or digits i 0) → left base value (drop i digits) ≡ None
 left_over base value digits i h own large =
     left_next base value digits i h own ∙ left_large base (value * base + digit_of (get_or digits i 0)) (drop (i + 1) digits) (omega arith) large
 
 -- at the end the value is the number
-pub left_none : (base value : ℕ) (digits : List ℕ) (i : ℕ) → i ≡ length digits → value ≤ 4294967295 → left base value (drop i digits) ≡ Is value
+pub left_none : (base value : ℕ) (digits : List ℕ) (i : ℕ) → i ≡ length digits → value ≤ 4294967295 → left base value (drop i digits) ≡ Some value
 unfolding digits_below value_with
 left_none base value digits i all fits = rw (all, drop-length digits, le-leb value 4294967295 fits)
 
--- all bytes are digits, one after the other
-module _ (base : ℕ) (digits : List ℕ) (i : ℕ) (h : i < length digits) where
-  pub digits_not : base ≤ digit_of (get_or digits i 0) → digits_below base (drop i digits) ≡ false
+-- a key is spelled where each of the 32 bytes is a digit
+module _ (text : List ℕ) (long : length text ≡ 32) where
+  pub key_spelled_lem : ((k : ℕ) → k < 32 → digit_of (get_or text k 0) < 16) → key_spelled text ≡ Some (key_of text)
   unfolding digits_below
-  digits_not other = rw (drop-cons digits i 0 h, le-ltb (digit_of (get_or digits i 0)) base other)
+  key_spelled_lem digits =
+      let all : digits_below 16 text ≡ true = and_from_places (digits_below 16) _ refl (λ _ _. refl) text 0 (λ k h. lt-ltb (digit_of (get_or text k 0)) 16 (digits k (omega arith))) in
+      rw (long, all)
 
-  pub digits_next : digit_of (get_or digits i 0) < base → digits_below base (drop i digits) ≡ digits_below base (drop (i + 1) digits)
+  pub no_key_spelled : (k : ℕ) → k < 32 → 16 ≤ digit_of (get_or text k 0) → key_spelled text ≡ None
   unfolding digits_below
-  digits_next own = rw (add-one, drop-cons digits i 0 h, lt-ltb (digit_of (get_or digits i 0)) base own)
-
-pub digits_none : (base : ℕ) (digits : List ℕ) (i : ℕ) → i ≡ length digits → digits_below base (drop i digits) ≡ true
-unfolding digits_below
-digits_none base digits i all = rw (all, drop-length digits)
-
--- each byte of such a text is a digit
-pub digit_at : (base : ℕ) (digits : List ℕ) (i : ℕ) → i < length digits → digits_below base digits ≡ true → digit_of (get_or digits i 0) < base
-unfolding digits_below
-digit_at base [] i h all = absurd (not-suc-le-zero h)
-digit_at base (byte ∷ others) zero h all = ltb-true (digit_of byte) base (both (ltb (digit_of byte) base) (digits_below base others) all).0
-digit_at base (byte ∷ others) (suc i) h all = digit_at base others i (le_of_suc-le-suc h) (both (ltb (digit_of byte) base) (digits_below base others) all).1
+  no_key_spelled k h other =
+      let some : digits_below 16 text ≡ false = and_fails_at (digits_below 16) _ refl (λ _ _. refl) text k 0 (omega arith) (le-ltb (digit_of (get_or text k 0)) 16 other) in
+      rw (long, some)

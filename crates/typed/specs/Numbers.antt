@@ -1,9 +1,7 @@
 -- Numbers and keys as they are typed.
-use Rattle.std.specs.Prelude.{ℕ, ◌+◌, ◌*◌, ◌-◌, Bool, true, ◌&&◌, ◌||◌, List, [], ◌∷◌, eqb, ltb, leb, length, get_or, drop}
+use Rattle.std.specs.Prelude.{ℕ, ◌+◌, ◌*◌, ◌-◌, Bool, true, ◌&&◌, ◌||◌, List, [], ◌∷◌, eqb, ltb, leb, length, get_or, drop, Option, Some, None}
 use Rattle.std.specs.Prelude.{if◌then◌else◌}
 use Rattle.chip.specs.Lists.{listed}
-use Rattle.typed.specs.declared.numbers.Number.{Number}
-use Rattle.typed.specs.declared.numbers.Number.TheVariants.{Is, Not}
 
 -- a byte is one of several that follow each other
 abbrev pub within : ℕ → ℕ → ℕ → Bool
@@ -17,6 +15,10 @@ digit_of byte =
     else if within 65 70 byte then byte - 55
     else 16
 
+-- what a digit counts, where it is one of a base
+unfoldable pub digit_in : ℕ → ℕ → Option ℕ
+digit_in base byte = if ltb (digit_of byte) base then Some (digit_of byte) else None
+
 -- all bytes are digits below a base
 unfoldable pub digits_below : ℕ → List ℕ → Bool
 digits_below base [] = true
@@ -28,18 +30,18 @@ value_with base value [] = value
 value_with base value (byte ∷ others) = value_with base (value * base + digit_of byte) others
 
 -- digits, one at least, spell a number where it is at most 4,294,967,295
-unfoldable pub number_in : ℕ → List ℕ → Number
+unfoldable pub number_in : ℕ → List ℕ → Option ℕ
 number_in base digits =
     if leb 1 (length digits) && digits_below base digits && leb (value_with base 0 digits) 4294967295
-    then Is (value_with base 0 digits)
-    else Not
+    then Some (value_with base 0 digits)
+    else None
 
 -- a text that begins with 0x or 0X
 unfoldable pub hexadecimal : List ℕ → Bool
 hexadecimal text = leb 2 (length text) && eqb (get_or text 0 0) 48 && (eqb (get_or text 1 0) 120 || eqb (get_or text 1 0) 88)
 
 -- the number that a text spells: hexadecimal after 0x, and decimal otherwise
-abbrev pub number_of : List ℕ → Number
+abbrev pub number_of : List ℕ → Option ℕ
 number_of text = if hexadecimal text then number_in 16 (drop 2 text) else number_in 10 text
 
 -- a key is spelled by 32 hexadecimal digits
@@ -54,6 +56,6 @@ key_byte text place = digit_of (get_or text (2 * place) 0) * 16 + digit_of (get_
 unfoldable pub key_of : List ℕ → List ℕ
 key_of text = listed 16 (key_byte text)
 
--- a text that spells no key leaves a key as it was
-abbrev pub key_after : List ℕ → List ℕ → List ℕ
-key_after text key = if spells_key text then key_of text else key
+-- the key that a text spells
+abbrev pub key_spelled : List ℕ → Option (List ℕ)
+key_spelled text = if spells_key text then Some (key_of text) else None
