@@ -1,3 +1,4 @@
+pub mod Ends
 pub mod Files
 pub mod Given
 pub mod Takes

@@ -21,90 +21,24 @@ words one two fewest greatest = record {
 
 -- an image, so many words with it, and a key to enter
 abbrev pub on_image : Role → ℕ → ℕ → Takes
-on_image two fewest greatest = record {
-  first = Image;
-  second = two;
-  third = Other;
-  least = fewest;
-  most = greatest;
-  key = true;
-  save = false;
-  replace = false;
-  ways = false;
-  rows = false;
-}
+on_image two fewest greatest = record (words Image two fewest greatest) { key = true }
 
 -- besides, what a third word is
 abbrev pub with_third : Takes → Role → Takes
-with_third takes three = record {
-  first = takes.first;
-  second = takes.second;
-  third = three;
-  least = takes.least;
-  most = takes.most;
-  key = takes.key;
-  save = takes.save;
-  replace = takes.replace;
-  ways = takes.ways;
-  rows = takes.rows;
-}
+with_third takes three = record takes { third = three }
 
 -- besides, what a read is asked with
 abbrev pub with_ways : Takes → Takes
-with_ways takes = record {
-  first = takes.first;
-  second = takes.second;
-  third = takes.third;
-  least = takes.least;
-  most = takes.most;
-  key = takes.key;
-  save = takes.save;
-  replace = takes.replace;
-  ways = true;
-  rows = takes.rows;
-}
+with_ways takes = record takes { ways = true }
 
 -- besides, a text with a list of rows
 abbrev pub with_rows : Takes → Takes
-with_rows takes = record {
-  first = takes.first;
-  second = takes.second;
-  third = takes.third;
-  least = takes.least;
-  most = takes.most;
-  key = takes.key;
-  save = takes.save;
-  replace = takes.replace;
-  ways = takes.ways;
-  rows = true;
-}
+with_rows takes = record takes { rows = true }
 
 -- besides, leave to write over a file
 abbrev pub with_replace : Takes → Takes
-with_replace takes = record {
-  first = takes.first;
-  second = takes.second;
-  third = takes.third;
-  least = takes.least;
-  most = takes.most;
-  key = takes.key;
-  save = takes.save;
-  replace = true;
-  ways = takes.ways;
-  rows = takes.rows;
-}
+with_replace takes = record takes { replace = true }
 
 -- besides, a name to save under, and leave to write over a file
 abbrev pub with_save : Takes → Takes
-with_save takes = record {
-  first = takes.first;
-  second = takes.second;
-  third = takes.third;
-  least = takes.least;
-  most = takes.most;
-  key = takes.key;
-  save = true;
-  replace = true;
-  ways = takes.ways;
-  rows = takes.rows;
-}
+with_save takes = record takes { save = true; replace = true }

@@ -1,23 +1,41 @@
-// How a command ended: its last line, since a program has no exit status of its own. The script ./otp cuts it off and goes by it.
-use screen::print;
+// How a command ends: by its last line, since a program has no exit status of its own. The script ./otp cuts that line off and goes by it.
+ghost use Rattle.std.specs.Prelude.{◌≡◌};
+ghost use Rattle.console.specs.declared.ended.Stop.TheVariants.{Screen};
 
-// The number that the library answered with.
-pub fn answered(number: u32) {
-    print::number_after(b"=", number);
-    print::end();
+use std::{fmt, io};
+
+// `Answered` has the number that the library answered with. `Different`: two images differ. `Usage`: a word is not what it must be. `File`: a
+// file is not what it must be, or the system refuses it.
+#[derive(Clone, Copy, Debug, PartialEq, Eq)]
+pub enum End {
+    Answered(u32),
+    Different,
+    Usage,
+    File,
 }
 
-// Two images differ.
-pub fn different() {
-    print::line(b"=different");
+impl fmt::Display for End {
+    fn fmt<W: fmt::Write>(&self, f: &mut fmt::Formatter<W>) -> fmt::Result {
+        match *self {
+            End::Answered(number) => write!(f, "={number}"),
+            End::Different => write!(f, "=different"),
+            End::Usage => write!(f, "=usage"),
+            End::File => write!(f, "=file"),
+        }
+    }
 }
 
-// A word is not what it must be.
-pub fn usage() {
-    print::line(b"=usage");
+// Why a command goes no further: it has ended, and what it had to say is said; or the screen takes no more.
+#[derive(Clone, Copy)]
+pub enum Stop {
+    Ended(End),
+    Screen(io::Error),
 }
 
-// A file is not what it must be, or the system refuses it.
-pub fn file() {
-    print::line(b"=file");
+impl From<io::Error> for Stop {
+    ghost from_gives = { λ error stop. stop ≡ Screen error };
+
+    fn from(error: io::Error) -> Stop {
+        Stop::Screen(error)
+    }
 }

@@ -1,135 +1,99 @@
 // Images, jobs and texts as files, and standard input. Whatever goes wrong is said in one line, and the command has ended. What a file holds
 // is the system's to say: a contract here says only how much of it there is.
-ghost use Rattle.std.specs.Prelude.{◌≤◌};
+ghost use Rattle.std.specs.Prelude.{IfErr, IfOk, length, ◌≤◌};
+ghost use Rattle.console.specs.Ends.{StopsWith};
 ghost use Rattle.console.specs.Files as spec;
 
-use crate::errors::{named, number_of};
-use crate::file_errors::{input_unread, said, unread};
-use crate::{ended, word};
+use crate::ended::{End, Stop};
+use crate::file_errors::{Wrong, input_unread, named, refused, unread};
+use crate::word;
 use image::rows::rows_of;
-use screen::print;
 use std::fs::File;
 use std::io::Read;
 use std::os::fd::AsRawFd;
 
-// How many bytes a file has, or that it has more than there is room for, or that it was not read.
-#[derive(Clone, Copy)]
-enum Loaded {
-    Bytes(usize),
-    More,
-    Nothing,
-}
-
-// Reads a file from its start, or gives the system's error. One byte more is asked for, to tell the end of the file from a failure and from a
-// file that is longer.
-fn contents(rt: &HostRuntime, place: usize, bytes: &mut [u8]) -> Result<Loaded, i32> {
+// Reads a file from its start: how many bytes it has, or nothing where it has more than there is room for. One byte more is asked for, to tell
+// the end of the file from a failure and from a file that is longer.
+fn contents(rt: &HostRuntime, place: usize, bytes: &mut [u8]) -> Result<Option<usize>, Wrong> {
     let mut path = io::buffer();
     let n = word::put(rt, place, &mut path)?;
-    let name = named(&path[..n])?;
-    let mut file = File::open(rt, name).map_err(number_of)?;
+    let mut file = File::open(rt, named(&path[..n])?)?;
     let got = io::read_full(file.as_raw_fd(), bytes);
     let mut next = [0u8; 1];
-    let more = file.read(&mut next).map_err(number_of)?;
-    if 0 < more {
-        return Ok(Loaded::More);
-    }
-    Ok(Loaded::Bytes(got))
+    let more = file.read(&mut next)?;
+    Ok(if more == 0 { Some(got) } else { None })
 }
 
 // The same, where one line says what went wrong.
-fn load(rt: &HostRuntime, place: usize, bytes: &mut [u8]) -> Loaded {
+fn load(rt: &HostRuntime, place: usize, bytes: &mut [u8]) -> Result<Option<usize>, Stop>
+    ensures { IfErr result (StopsWith End.File) }
+{
     match contents(rt, place, bytes) {
-        Ok(loaded) => loaded,
-        Err(error) => {
-            unread(rt, place, error);
-            Loaded::Nothing
-        }
+        Ok(loaded) => Ok(loaded),
+        Err(wrong) => unread(rt, place, wrong),
     }
 }
 
-fn wrong_length(rt: &HostRuntime, place: usize, n: usize) {
-    said(rt, place, b"an image has 16384 bytes, and this file ");
-    print::bytes(n);
-    print::end();
-    ended::file();
-}
-
-// Reads an image. False where there is none.
-pub fn load_image(rt: &HostRuntime, place: usize, rows: &mut [u32; 4096]) -> bool
-    ensures { spec.Image result rows.new }
+// Reads an image.
+pub fn load_image(rt: &HostRuntime, place: usize, rows: &mut [u32; 4096]) -> Result<(), Stop>
+    ensures image { spec.Image result rows.new }
+    ensures stop { IfErr result (StopsWith End.File) }
 {
     let mut bytes = [0u8; 16384];
-    match load(rt, place, &mut bytes) {
-        Loaded::Bytes(n) => {
-            if n != 16384 {
-                wrong_length(rt, place, n);
-                return false;
-            }
+    match load(rt, place, &mut bytes)? {
+        Some(16384) => {
             *rows = rows_of(&bytes);
-            true
+            Ok(())
         }
-        Loaded::More => {
-            said(rt, place, b"an image has 16384 bytes, and this file more\n");
-            ended::file();
-            false
-        }
-        Loaded::Nothing => false,
+        Some(n) => refused(
+            rt,
+            place,
+            format_args!("an image has 16384 bytes, and this file {n}"),
+        ),
+        None => refused(rt, place, "an image has 16384 bytes, and this file more"),
     }
-}
-
-// The length of a job or a text, or that there is none.
-#[derive(Clone, Copy)]
-pub enum Length {
-    Is(usize),
-    Not,
-}
-
-fn least(n: usize, room: usize) -> usize
-    ensures { result ≤ room }
-{
-    if n < room { n } else { room }
 }
 
 // Reads a job. One byte more than the longest has is room enough: whatever is longer is malformed, and so are its first 3,080 bytes.
-pub fn load_job(rt: &HostRuntime, place: usize, job: &mut [u8; 3080]) -> Length
-    ensures { spec.Within 3080 result }
+pub fn load_job<'a>(
+    rt: &HostRuntime,
+    place: usize,
+    job: &'a mut [u8; 3080],
+) -> Result<&'a [u8], Stop>
+    ensures within { IfOk result (λ own. length own.now ≤ 3080) }
+    ensures stop { IfErr result (StopsWith End.File) }
 {
-    match load(rt, place, job) {
-        Loaded::Bytes(n) => Length::Is(least(n, 3080)),
-        Loaded::More => Length::Is(3080),
-        Loaded::Nothing => Length::Not,
-    }
+    let n = load(rt, place, job)?.unwrap_or(3080);
+    Ok(&job[..n.min(3080)])
 }
 
 // Reads a text.
-pub fn load_text(rt: &HostRuntime, place: usize, text: &mut [u8; 65536]) -> Length
-    ensures { spec.Within 65536 result }
+pub fn load_text<'a>(
+    rt: &HostRuntime,
+    place: usize,
+    text: &'a mut [u8; 65536],
+) -> Result<&'a [u8], Stop>
+    ensures within { IfOk result (λ own. length own.now ≤ 65536) }
+    ensures stop { IfErr result (StopsWith End.File) }
 {
-    match load(rt, place, text) {
-        Loaded::Bytes(n) => Length::Is(least(n, 65536)),
-        Loaded::More => {
-            said(
-                rt,
-                place,
-                b"a text has at most 65536 bytes, and this file more\n",
-            );
-            ended::file();
-            Length::Not
-        }
-        Loaded::Nothing => Length::Not,
+    match load(rt, place, text)? {
+        Some(n) => Ok(&text[..n.min(65536)]),
+        None => refused(
+            rt,
+            place,
+            "a text has at most 65536 bytes, and this file more",
+        ),
     }
 }
 
 // Reads what has come of standard input, and waits where nothing has. At its end that is nothing.
-pub fn read_input(rt: &HostRuntime, piece: &mut [u8; 4096]) -> Length
-    ensures { spec.Within 4096 result }
+pub fn read_input<'a>(rt: &HostRuntime, piece: &'a mut [u8; 4096]) -> Result<&'a [u8], Stop>
+    ensures within { IfOk result (λ own. length own.now ≤ 4096) }
+    ensures stop { IfErr result (StopsWith End.File) }
 {
     let mut input = rt.stdin();
     match input.read(piece) {
-        Ok(got) => Length::Is(least(got, 4096)),
-        Err(error) => {
-            input_unread(number_of(error));
-            Length::Not
-        }
+        Ok(n) => Ok(&piece[..n]),
+        Err(error) => input_unread(rt, error.into()),
     }
 }

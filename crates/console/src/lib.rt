@@ -2,7 +2,6 @@
 #![tactic(auto)]
 
 pub mod ended;
-pub(crate) mod errors;
 pub mod file_errors;
 pub mod files;
 mod names;

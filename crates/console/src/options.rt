@@ -1,190 +1,140 @@
 // Which of the command's words is what, by their places. An option is known here and nowhere else.
-use crate::word::{arg_count, command, is, is_option};
+use crate::word;
 
-// The places of what was given, 0 for what was not. `first` to `third` are the words that follow no option.
-#[derive(Clone, Copy)]
+// The places of what was given. `first` to `third` are the words that follow no option. An option with a value is known by the place of that.
+#[derive(Clone, Copy, Default)]
 pub struct Words {
-    pub first: usize,
-    pub second: usize,
-    pub third: usize,
-    pub key: usize,
-    pub save: usize,
-    pub rows: usize,
-    pub replace: usize,
-    pub vote: usize,
-    pub raw: usize,
-    pub nonsecure: usize,
-    pub caller: usize,
-    // The option whose value comes next, as one of the numbers below, and the first that another option follows.
-    pub awaited: u32,
-    pub missing: usize,
-    // The first word that fits nowhere, and the first option that was given before.
-    pub wrong: usize,
-    pub twice: usize,
+    pub first: Option<usize>,
+    pub second: Option<usize>,
+    pub third: Option<usize>,
+    pub key: Option<usize>,
+    pub save: Option<usize>,
+    pub rows: Option<usize>,
+    pub replace: Option<usize>,
+    pub vote: Option<usize>,
+    pub raw: Option<usize>,
+    pub nonsecure: Option<usize>,
+    pub caller: Option<usize>,
 }
 
-// What can be awaited.
-pub const NOTHING: u32 = 0;
-
-const KEY: u32 = 1;
-
-const SAVE: u32 = 2;
-
-const VOTE: u32 = 3;
-
-const CALLER: u32 = 4;
-
-const ROWS: u32 = 5;
-
-// A word that follows no option.
-fn with_plain(mut words: Words, place: usize) -> Words {
-    if words.first == 0 {
-        words.first = place;
-        return words;
-    }
-    if words.second == 0 {
-        words.second = place;
-        return words;
-    }
-    if words.third == 0 {
-        words.third = place;
-        return words;
-    }
-    words.wrong = place;
-    words
+// An option.
+#[derive(Clone, Copy, Debug, PartialEq, Eq)]
+enum Choice {
+    Key,
+    Save,
+    Rows,
+    Replace,
+    Vote,
+    Raw,
+    NonSecure,
+    Caller,
 }
 
-// The place before one.
-pub(crate) fn before(place: usize) -> usize {
-    if place == 0 {
-        return 0;
+impl Choice {
+    fn of(word: &[u8]) -> Option<Choice> {
+        match word {
+            b"--key" => Some(Choice::Key),
+            b"--save" => Some(Choice::Save),
+            b"--rows" => Some(Choice::Rows),
+            b"--replace" => Some(Choice::Replace),
+            b"--vote" => Some(Choice::Vote),
+            b"--raw" => Some(Choice::Raw),
+            b"--non-secure" => Some(Choice::NonSecure),
+            b"--as" => Some(Choice::Caller),
+            _ => None,
+        }
     }
-    place - 1
+
+    // Whether the word after it is its value.
+    fn has_value(self) -> bool {
+        !matches!(self, Choice::Replace | Choice::Raw | Choice::NonSecure)
+    }
 }
 
-// The value of the option before it. An option is no value.
-fn with_value(rt: &HostRuntime, mut words: Words, place: usize) -> Words {
-    if is_option(rt, place) {
-        words.missing = before(place);
-        return words;
-    }
-    let awaited = words.awaited;
-    words.awaited = NOTHING;
-    if awaited == KEY {
-        words.key = place;
-        return words;
-    }
-    if awaited == SAVE {
-        words.save = place;
-        return words;
-    }
-    if awaited == VOTE {
-        words.vote = place;
-        return words;
-    }
-    if awaited == ROWS {
-        words.rows = place;
-        return words;
-    }
-    words.caller = place;
-    words
+// The option whose value comes next, and its place.
+type Awaited = Option<(Choice, usize)>;
+
+// What is odd about the words, with the place of one of them: it fits nowhere; it is an option that has no value; it is an option that was
+// given before.
+#[derive(Clone, Copy, Debug, PartialEq, Eq)]
+pub(crate) enum Odd {
+    Misfit(usize),
+    NoValue(usize),
+    Twice(usize),
 }
 
-// An option whose value comes next, and the place where a value of it stands already.
-fn awaiting(mut words: Words, option: u32, before: usize, place: usize) -> Words {
-    if before != 0 {
-        words.twice = place;
-        return words;
+impl Words {
+    // Where the place of an option stands, or of its value.
+    fn slot(&mut self, choice: Choice) -> &mut Option<usize> {
+        match choice {
+            Choice::Key => &mut self.key,
+            Choice::Save => &mut self.save,
+            Choice::Rows => &mut self.rows,
+            Choice::Replace => &mut self.replace,
+            Choice::Vote => &mut self.vote,
+            Choice::Raw => &mut self.raw,
+            Choice::NonSecure => &mut self.nonsecure,
+            Choice::Caller => &mut self.caller,
+        }
     }
-    words.awaited = option;
-    words
-}
 
-fn with_option(rt: &HostRuntime, words: Words, place: usize) -> Words {
-    if is(rt, place, b"--key") {
-        return awaiting(words, KEY, words.key, place);
+    // A word that follows no option.
+    fn take_plain(&mut self, place: usize) -> Result<(), Odd> {
+        if self.first.is_none() {
+            self.first = Some(place);
+        } else if self.second.is_none() {
+            self.second = Some(place);
+        } else if self.third.is_none() {
+            self.third = Some(place);
+        } else {
+            return Err(Odd::Misfit(place));
+        }
+        Ok(())
     }
-    if is(rt, place, b"--save") {
-        return awaiting(words, SAVE, words.save, place);
-    }
-    if is(rt, place, b"--vote") {
-        return awaiting(words, VOTE, words.vote, place);
-    }
-    if is(rt, place, b"--as") {
-        return awaiting(words, CALLER, words.caller, place);
-    }
-    if is(rt, place, b"--rows") {
-        return awaiting(words, ROWS, words.rows, place);
-    }
-    with_flag(rt, words, place)
-}
 
-// An option that stands already.
-fn once(mut words: Words, before: usize, place: usize) -> Words {
-    if before != 0 {
-        words.twice = place;
+    // An option, and its place where its value comes next.
+    fn take_choice(&mut self, rt: &HostRuntime, place: usize) -> Result<Awaited, Odd> {
+        let mut bytes = [0u8; 16];
+        let Some(choice) = Choice::of(word::read(rt, place, &mut bytes)) else {
+            return Err(Odd::Misfit(place));
+        };
+        let slot = self.slot(choice);
+        if slot.is_some() {
+            return Err(Odd::Twice(place));
+        }
+        if choice.has_value() {
+            return Ok(Some((choice, place)));
+        }
+        *slot = Some(place);
+        Ok(None)
     }
-    words
-}
 
-// An option that has no value.
-fn with_flag(rt: &HostRuntime, mut words: Words, place: usize) -> Words {
-    let raw = words.raw;
-    let nonsecure = words.nonsecure;
-    let replace = words.replace;
-    if is(rt, place, b"--raw") {
-        words.raw = place;
-        return once(words, raw, place);
+    // One word more. An option is no value.
+    fn take(&mut self, rt: &HostRuntime, awaited: Awaited, place: usize) -> Result<Awaited, Odd> {
+        let is_option = word::is_option(rt, place);
+        match awaited {
+            Some((_, at)) if is_option => Err(Odd::NoValue(at)),
+            Some((choice, _)) => {
+                *self.slot(choice) = Some(place);
+                Ok(None)
+            }
+            None if is_option => self.take_choice(rt, place),
+            None => {
+                self.take_plain(place)?;
+                Ok(None)
+            }
+        }
     }
-    if is(rt, place, b"--non-secure") {
-        words.nonsecure = place;
-        return once(words, nonsecure, place);
-    }
-    if is(rt, place, b"--replace") {
-        words.replace = place;
-        return once(words, replace, place);
-    }
-    words.wrong = place;
-    words
-}
 
-// The words with one more of them taken. Nothing is taken after a wrong one.
-fn with(rt: &HostRuntime, words: Words, place: usize) -> Words {
-    if words.wrong != 0 || words.twice != 0 || words.missing != 0 {
-        return words;
+    // All words after the command's name, as far as the first that is odd.
+    pub(crate) fn take_all(&mut self, rt: &HostRuntime) -> Result<(), Odd> {
+        let mut awaited = None;
+        for place in word::command(rt) + 1..word::arg_count(rt) {
+            awaited = self.take(rt, awaited, place)?;
+        }
+        match awaited {
+            Some((_, at)) => Err(Odd::NoValue(at)),
+            None => Ok(()),
+        }
     }
-    if words.awaited != NOTHING {
-        return with_value(rt, words, place);
-    }
-    if is_option(rt, place) {
-        return with_option(rt, words, place);
-    }
-    with_plain(words, place)
-}
-
-// All words after the command's name.
-pub(crate) fn taken(rt: &HostRuntime) -> Words {
-    let mut words = Words {
-        first: 0,
-        second: 0,
-        third: 0,
-        key: 0,
-        save: 0,
-        rows: 0,
-        replace: 0,
-        vote: 0,
-        raw: 0,
-        nonsecure: 0,
-        caller: 0,
-        awaited: NOTHING,
-        missing: 0,
-        wrong: 0,
-        twice: 0,
-    };
-    let first = command(rt) + 1;
-    let count = arg_count(rt);
-    for place in first..count {
-        words = with(rt, words, place);
-    }
-    words
 }

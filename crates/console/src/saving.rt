@@ -1,138 +1,99 @@
 // Saving an image or a job: whole under its name, or not at all. It is written under a temporary name beside its own, and renamed at the end.
-ghost use Rattle.console.specs.Files as spec;
+ghost use Rattle.std.specs.Prelude.{IfErr};
+ghost use Rattle.console.specs.Ends.{StopsWith};
 
-use crate::errors::{EILSEQ, ENAMETOOLONG, ENOENT, named, number_of};
-use crate::file_errors::unwritten;
+use crate::ended::{End, Stop};
+use crate::file_errors::{Wrong, named, unwritten};
 use crate::options::Words;
 use crate::word;
 use image::rows::bytes_of;
-use screen::print;
-use std::fs;
 use std::fs::{File, OpenOptions};
-use std::io::{Error, Write};
+use std::io::Write;
+use std::{fs, io};
 
-// Gives a new file its bytes, sees that they have reached the disk, and closes it. The system's error, or 0; closing tells of none.
-fn fill(mut file: File, bytes: &[u8]) -> i32 {
-    if let Err(error) = file.write_all(bytes) {
-        return number_of(error);
-    }
-    if let Err(error) = file.sync_all() {
-        return number_of(error);
-    }
-    0
+// Gives a new file its bytes, sees that they have reached the disk, and closes it. Closing tells of no error.
+fn fill(mut file: File, bytes: &[u8]) -> io::Result<()> {
+    file.write_all(bytes)?;
+    file.sync_all()
 }
 
 // Makes a file that is not there yet.
-fn created(rt: &HostRuntime, name: &str) -> Result<File, Error> {
+fn created(rt: &HostRuntime, name: &str) -> io::Result<File> {
     OpenOptions::new()
         .write(true)
         .create_new(true)
         .open(rt, name)
 }
 
-// Writes the temporary file and gives it its name. Where that fails the temporary file goes. The system's error, or 0.
-fn write_beside(rt: &HostRuntime, path: &str, temporary: &str, bytes: &[u8]) -> i32 {
-    let error = match created(rt, temporary) {
-        Ok(file) => fill(file, bytes),
-        Err(error) => return number_of(error),
-    };
-    if error != 0 {
-        let _ = fs::remove_file(rt, temporary);
-        return error;
-    }
-    if let Err(error) = fs::rename(rt, temporary, path) {
-        let _ = fs::remove_file(rt, temporary);
-        return number_of(error);
-    }
-    0
+fn filled_and_named(
+    rt: &HostRuntime,
+    file: File,
+    temporary: &str,
+    path: &str,
+    bytes: &[u8],
+) -> io::Result<()> {
+    fill(file, bytes)?;
+    fs::rename(rt, temporary, path)
 }
 
-// A name with '.part' after it: how long it then is, or 0 where there is no name or no room.
-fn with_part(name: &mut [u8; 4096], n: usize) -> usize {
+// Writes the temporary file and gives it its name. Where that fails the temporary file goes.
+fn write_beside(rt: &HostRuntime, path: &str, temporary: &str, bytes: &[u8]) -> io::Result<()> {
+    let file = created(rt, temporary)?;
+    let done = filled_and_named(rt, file, temporary, path, bytes);
+    if done.is_err() {
+        let _ = fs::remove_file(rt, temporary);
+    }
+    done
+}
+
+// Writes bytes under the name at a place. The temporary name is that with '.part' after it.
+fn write(rt: &HostRuntime, place: usize, bytes: &[u8]) -> Result<(), Wrong> {
+    let mut name = [0u8; 4096];
+    let n = word::put(rt, place, &mut name)?;
     if n == 0 {
-        return 0;
+        return Err(Wrong::NotThere);
     }
     if 4090 < n {
-        return 0;
+        return Err(Wrong::NameTooLong);
     }
-    name[n] = b'.';
-    name[n + 1] = b'p';
-    name[n + 2] = b'a';
-    name[n + 3] = b'r';
-    name[n + 4] = b't';
-    n + 5
+    name[n..n + 5].copy_from_slice(b".part");
+    write_beside(rt, named(&name[..n])?, named(&name[..n + 5])?, bytes)?;
+    Ok(())
 }
 
-// The same, with the temporary name at the start of an array.
-fn write(
-    rt: &HostRuntime,
-    path: &[u8],
-    temporary: &[u8; 4096],
-    length: usize,
-    bytes: &[u8],
-) -> i32 {
-    let name: &[u8] = temporary;
-    if path.len() == 0 {
-        return ENOENT;
-    }
-    if length == 0 {
-        return ENAMETOOLONG;
-    }
-    if name.len() < length {
-        return ENAMETOOLONG;
-    }
-    let (Ok(path), Ok(beside)) = (named(path), named(&name[0..length])) else {
-        return EILSEQ;
-    };
-    write_beside(rt, path, beside, bytes)
-}
-
-// Saves bytes under the name at a place. False where it could not: one line has said so, and the command has ended.
-pub fn save_bytes(rt: &HostRuntime, place: usize, bytes: &[u8]) -> bool
-    ensures { spec.Told result }
+// Saves bytes under the name at a place. Where it could not, one line has said so, and the command has ended.
+pub fn save_bytes(rt: &HostRuntime, place: usize, bytes: &[u8]) -> Result<(), Stop>
+    ensures { IfErr result (StopsWith End.File) }
 {
-    let mut path = [0u8; 4096];
-    let n = match word::put(rt, place, &mut path) {
-        Ok(n) => n,
-        Err(long) => {
-            unwritten(rt, place, long);
-            return false;
-        }
-    };
-    let mut temporary = [0u8; 4096];
-    let m = word::read(rt, place, &mut temporary);
-    let length = with_part(&mut temporary, m);
-    let error = write(rt, &path[..n], &temporary, length, bytes);
-    if error != 0 {
-        unwritten(rt, place, error);
-        return false;
+    match write(rt, place, bytes) {
+        Ok(()) => Ok(()),
+        Err(wrong) => unwritten(rt, place, wrong),
     }
-    true
 }
 
 // The same of the image of rows.
-pub fn save(rt: &HostRuntime, place: usize, rows: &[u32; 4096]) -> bool
-    ensures { spec.Told result }
+pub fn save(rt: &HostRuntime, place: usize, rows: &[u32; 4096]) -> Result<(), Stop>
+    ensures { IfErr result (StopsWith End.File) }
 {
-    let bytes = bytes_of(rows);
-    save_bytes(rt, place, &bytes)
+    save_bytes(rt, place, &bytes_of(rows))
 }
 
-// Saves the image of rows, where that is asked for. False where it could not.
-pub fn save_asked(rt: &HostRuntime, words: Words, rows: &[u32; 4096]) -> bool
-    ensures { spec.Told result }
+// Saves the image of rows, where that is asked for.
+pub fn save_asked(rt: &HostRuntime, words: Words, rows: &[u32; 4096]) -> Result<(), Stop>
+    ensures { IfErr result (StopsWith End.File) }
 {
-    if words.save == 0 {
-        return true;
+    match words.save {
+        Some(place) => save(rt, place, rows),
+        None => Ok(()),
     }
-    save(rt, words.save, rows)
 }
 
 // "saved as cut.img", where that was asked for.
-pub fn saved_line(rt: &HostRuntime, words: Words) {
-    if words.save != 0 {
-        print::text(b"saved as ");
-        word::print(rt, words.save);
-        print::end();
-    }
+pub fn saved_line(rt: &HostRuntime, words: Words) -> io::Result<()> {
+    let Some(place) = words.save else {
+        return Ok(());
+    };
+    print!(rt; "saved as ")?;
+    word::print(rt, place)?;
+    println!(rt;)
 }

@@ -1,37 +1,30 @@
-// A word as it is shown: control characters are made visible, so that no name acts on the terminal or passes for a line of its own.
-use screen::print;
-
-// The number of the file descriptor that a program writes to.
-const STANDARD_OUTPUT: i32 = 1;
+// A word as it is shown: control characters are made visible, so that no name acts on the terminal or passes for a line of its own. A name may
+// be any bytes, and a Display type writes UTF-8 alone: so each byte goes to the screen as it is, and there is no such type.
+use std::io;
 
 // Whether a byte is a control character, or ends one: after 0xc2 UTF-8 has those from 0x80 to 0x9f.
 fn is_control(before: u8, code: u8) -> bool {
-    code < 32 || code == 127 || (before == 0xc2 && 0x80 <= code && code < 0xa0)
+    code.is_ascii_control() || (before == 0xc2 && 0x80 <= code && code < 0xa0)
 }
 
-fn byte(before: u8, code: u8) {
+fn byte(rt: &HostRuntime, before: u8, code: u8) -> io::Result<()> {
     if is_control(before, code) {
-        print::text(b"\\x");
-        io::print_hex(STANDARD_OUTPUT, code as u64, 2);
-        return;
+        return print!(rt; "\\x{code:02x}");
     }
-    let own = [code];
-    print::text(&own);
+    rt.write_all(&[code])
 }
 
-pub fn whole(word: &[u8]) {
+pub fn whole(rt: &HostRuntime, word: &[u8]) -> io::Result<()> {
     let mut before = 0;
-    for i in 0..word.len() {
-        byte(before, word[i]);
-        before = word[i];
+    for code in word {
+        byte(rt, before, *code)?;
+        before = *code;
     }
+    Ok(())
 }
 
 // The beginning of a word that is longer than any path.
-pub fn beginning(word: &[u8; 4096]) {
-    let bytes: &[u8] = word;
-    if 60 <= bytes.len() {
-        whole(&bytes[0..60]);
-    }
-    print::text(b"...");
+pub fn beginning(rt: &HostRuntime, word: &[u8; 4096]) -> io::Result<()> {
+    whole(rt, &word[..60])?;
+    print!(rt; "...")
 }

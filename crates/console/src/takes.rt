@@ -3,7 +3,7 @@ ghost use Rattle.std.specs.Prelude.{◌≡◌};
 ghost use Rattle.console.specs.Takes as spec;
 
 // What a word is to the command: a file that it reads, one that it writes, or something else.
-#[derive(Clone, Copy)]
+#[derive(Clone, Copy, Debug, PartialEq, Eq)]
 pub enum Role {
     Image,
     Job,
@@ -14,7 +14,7 @@ pub enum Role {
 
 // `save` is an option that names a file to write, `replace` one that lets it write over another, `ways` those of `read`, `rows` one that names
 // a text with a list of rows. Where a command takes one word, `second` is what standard input is to it.
-#[derive(Clone, Copy)]
+#[derive(Clone, Copy, Debug, PartialEq, Eq)]
 pub struct Takes {
     pub first: Role,
     pub second: Role,
@@ -52,37 +52,17 @@ impl Takes {
         ensures { result ≡ spec.on_image second least most }
     {
         Takes {
-            first: Role::Image,
-            second,
-            third: Role::Other,
-            least,
-            most,
             key: true,
-            save: false,
-            replace: false,
-            ways: false,
-            rows: false,
+            ..Takes::words(Role::Image, second, least, most)
         }
     }
 
     // Besides, what a third word is.
-    pub fn with_third(self, third: Role) -> Takes
+    pub fn with_third(mut self, third: Role) -> Takes
         ensures { result ≡ spec.with_third self third }
     {
-        let first = self.first;
-        let second = self.second;
-        Takes {
-            first,
-            second,
-            third,
-            least: self.least,
-            most: self.most,
-            key: self.key,
-            save: self.save,
-            replace: self.replace,
-            ways: self.ways,
-            rows: self.rows,
-        }
+        self.third = third;
+        self
     }
 
     // Besides, what a read is asked with.
@@ -114,7 +94,6 @@ impl Takes {
         ensures { result ≡ spec.with_save self }
     {
         self.save = true;
-        self.replace = true;
-        self
+        self.with_replace()
     }
 }

@@ -1,195 +1,188 @@
 // Whether the words fit the command. Where they do not, one line says so, and the command has ended.
-ghost use Rattle.std.specs.Prelude.{◌≡◌};
+ghost use Rattle.std.specs.Prelude.{◌≡◌, IfErr, IfNone, IsErrAnd, MatchResult};
+ghost use Rattle.console.specs.Ends.{StopsWith};
 ghost use Rattle.console.specs.Given as spec;
 
-use crate::options::{NOTHING, Words, before, taken};
+use crate::ended::{End, Stop};
+use crate::file_errors::said;
+use crate::options::{Odd, Words};
 use crate::takes::Takes;
-use crate::{ended, names, word};
-use screen::print;
+use crate::{names, word};
 
 // A word that is not what it must be.
-pub fn wrong(rt: &HostRuntime, place: usize, why: &[u8]) {
-    print::text(b"otp: '");
-    word::print(rt, place);
-    print::text(b"': ");
-    print::line(why);
-    ended::usage();
+pub fn wrong<T>(rt: &HostRuntime, place: usize, why: &str) -> Result<T, Stop>
+    ensures { IsErrAnd result (StopsWith End.Usage) }
+{
+    said(rt, place)?;
+    println!(rt; "{why}")?;
+    Err(Stop::Ended(End::Usage))
 }
 
-pub fn not_a_number(rt: &HostRuntime, place: usize) {
+pub fn not_a_number<T>(rt: &HostRuntime, place: usize) -> Result<T, Stop>
+    ensures { IsErrAnd result (StopsWith End.Usage) }
+{
     wrong(
         rt,
         place,
-        b"not a number of 32 bits, decimal or hexadecimal after 0x",
-    );
+        "not a number of 32 bits, decimal or hexadecimal after 0x",
+    )
 }
 
-pub fn no_command(rt: &HostRuntime) {
+// The number that a word spells, which must be one.
+pub fn number(rt: &HostRuntime, place: usize) -> Result<u32, Stop>
+    ensures stop { IfErr result (StopsWith End.Usage) }
+{
+    match word::number(rt, place) {
+        Some(number) => Ok(number),
+        None => not_a_number(rt, place),
+    }
+}
+
+// No command is named, or none that there is.
+pub fn no_command<T>(rt: &HostRuntime) -> Result<T, Stop>
+    ensures { IsErrAnd result (StopsWith End.Usage) }
+{
     let place = word::command(rt);
     if word::arg_count(rt) <= place {
-        print::line(b"otp: no command; ./otp help shows them");
-        ended::usage();
-        return;
+        println!(rt; "otp: no command; ./otp help shows them")?;
+        return Err(Stop::Ended(End::Usage));
     }
-    wrong(rt, place, b"no such command; ./otp help shows them");
+    wrong(rt, place, "no such command; ./otp help shows them")
+}
+
+// A word that fits nowhere.
+fn misfit(rt: &HostRuntime, place: usize) -> Result<(), Stop>
+    ensures { IsErrAnd result (StopsWith End.Usage) }
+{
+    wrong(
+        rt,
+        place,
+        "this word does not fit here; ./otp help shows what does",
+    )
+}
+
+// A word that the command takes is not there.
+fn missing<T>(rt: &HostRuntime) -> Result<T, Stop>
+    ensures { IsErrAnd result (StopsWith End.Usage) }
+{
+    wrong(
+        rt,
+        word::command(rt),
+        "a word is missing; ./otp help shows what it takes",
+    )
+}
+
+// The place of a word that the command takes.
+pub fn needed(rt: &HostRuntime, place: Option<usize>) -> Result<usize, Stop>
+    ensures { MatchResult result (λ own. place ≡ Some own) (StopsWith End.Usage) }
+{
+    match place {
+        Some(own) => Ok(own),
+        None => missing(rt),
+    }
 }
 
 // How many words follow no option.
 fn count(words: Words) -> usize
     ensures { result ≡ spec.count_of words }
 {
-    let first = words.first;
-    let second = words.second;
-    let third = words.third;
-    if third != 0 {
-        return 3;
+    match (words.first, words.second, words.third) {
+        (_, _, Some(_)) => 3,
+        (_, Some(_), None) => 2,
+        (Some(_), None, None) => 1,
+        (None, None, None) => 0,
     }
-    if second != 0 {
-        return 2;
-    }
-    if first != 0 {
-        return 1;
-    }
-    0
 }
 
 // The place of the last of them.
-fn last(words: Words) -> usize {
-    if words.third != 0 {
-        return words.third;
-    }
-    if words.second != 0 {
-        return words.second;
-    }
-    words.first
+fn last(words: Words) -> Option<usize>
+    ensures { IfNone result (spec.count_of words ≡ 0) }
+{
+    words.third.or(words.second).or(words.first)
 }
 
-// The place of the first option that a command does not take, or 0.
-fn stray(words: Words, takes: Takes) -> usize {
-    if words.key != 0 && !takes.key {
-        return before(words.key);
+// The place before one: that of an option, by the place of its value.
+fn before(place: usize) -> usize {
+    place.saturating_sub(1)
+}
+
+// The place of the first option that a command does not take.
+fn stray(words: Words, takes: Takes) -> Option<usize> {
+    if !takes.key
+        && let Some(value) = words.key
+    {
+        return Some(before(value));
     }
-    if words.save != 0 && !takes.save {
-        return before(words.save);
+    if !takes.save
+        && let Some(value) = words.save
+    {
+        return Some(before(value));
     }
-    if words.replace != 0 && !takes.replace {
+    if !takes.replace && words.replace.is_some() {
         return words.replace;
     }
-    if words.rows != 0 && !takes.rows {
-        return before(words.rows);
+    if !takes.rows
+        && let Some(value) = words.rows
+    {
+        return Some(before(value));
     }
-    if takes.ways {
-        return 0;
-    }
-    stray_way(words)
+    if takes.ways { None } else { stray_way(words) }
 }
 
-// The place of an option that only `read` takes, or 0.
-fn stray_way(words: Words) -> usize {
-    if words.vote != 0 {
-        return before(words.vote);
+// The place of an option that only `read` takes.
+fn stray_way(words: Words) -> Option<usize> {
+    match (words.vote, words.caller) {
+        (Some(value), _) | (None, Some(value)) => Some(before(value)),
+        (None, None) => words.raw.or(words.nonsecure),
     }
-    if words.caller != 0 {
-        return before(words.caller);
-    }
-    if words.raw != 0 {
-        return words.raw;
-    }
-    words.nonsecure
-}
-
-// The place of an option that has no value, or 0: another option follows it, or nothing does.
-fn missing(rt: &HostRuntime, words: Words) -> usize {
-    if words.missing != 0 {
-        return words.missing;
-    }
-    if words.awaited == NOTHING {
-        return 0;
-    }
-    before(word::arg_count(rt))
-}
-
-// A word that fits nowhere, and an option that the command does not take or that has no value.
-fn odd_word(rt: &HostRuntime, place: usize, valueless: usize) -> bool {
-    if place != 0 {
-        wrong(
-            rt,
-            place,
-            b"this word does not fit here; ./otp help shows what does",
-        );
-        return true;
-    }
-    if valueless != 0 {
-        wrong(rt, valueless, b"its value is missing; ./otp help shows it");
-        return true;
-    }
-    false
-}
-
-// An option that is given twice, or without the one that it goes with.
-fn odd_option(rt: &HostRuntime, words: Words, takes: Takes) -> bool {
-    if words.twice != 0 {
-        wrong(rt, words.twice, b"given twice");
-        return true;
-    }
-    if words.replace != 0 && takes.save {
-        if words.save == 0 {
-            wrong(rt, words.replace, b"it goes with --save");
-            return true;
-        }
-    }
-    false
 }
 
 // Whether the words are those of the command. Where they are not, one line says so.
-fn fit(rt: &HostRuntime, words: Words, takes: Takes) -> bool
-    ensures { spec.Judged takes words result }
+fn fit(rt: &HostRuntime, words: Words, odd: Result<(), Odd>, takes: Takes) -> Result<(), Stop>
+    ensures judged { spec.Judged takes words result }
+    ensures stop { IfErr result (StopsWith End.Usage) }
 {
     let own = count(words);
-    if odd_word(rt, words.wrong, 0) {
-        return false;
+    if let Err(Odd::Misfit(place)) = odd {
+        return misfit(rt, place);
     }
-    if takes.most < own {
-        odd_word(rt, last(words), 0);
-        return false;
+    if let Some(place) = last(words)
+        && takes.most < own
+    {
+        return misfit(rt, place);
     }
-    if odd_word(rt, stray(words, takes), missing(rt, words)) {
-        return false;
+    if let Some(place) = stray(words, takes) {
+        return misfit(rt, place);
+    }
+    if let Err(Odd::NoValue(place)) = odd {
+        return wrong(rt, place, "its value is missing; ./otp help shows it");
     }
     if own < takes.least {
-        wrong(
+        return missing(rt);
+    }
+    if let Err(Odd::Twice(place)) = odd {
+        return wrong(rt, place, "given twice");
+    }
+    match words.replace {
+        Some(place) if takes.save && words.save.is_none() => wrong(
             rt,
-            word::command(rt),
-            b"a word is missing; ./otp help shows what it takes",
-        );
-        return false;
+            place,
+            "it goes with --save",
+        ),
+        _ => Ok(()),
     }
-    if odd_option(rt, words, takes) {
-        return false;
-    }
-    true
-}
-
-// The words of the command, where it is to go on with them.
-#[derive(Clone, Copy)]
-pub enum Given {
-    Words(Words),
-    Ended,
 }
 
 // Takes the words. Where they do not fit, or where only the names of the files are asked for, the command has ended.
-pub fn asked(rt: &HostRuntime, takes: Takes) -> Given
+pub fn asked(rt: &HostRuntime, takes: Takes) -> Result<Words, Stop>
     ensures { spec.Fits takes result }
 {
-    let words = taken(rt);
-    let fits = fit(rt, words, takes);
-    if fits {
-        if word::naming(rt) {
-            names::lines(words, takes);
-            ended::answered(0);
-            return Given::Ended;
-        }
-        return Given::Words(words);
+    let mut words = Words::default();
+    let odd = words.take_all(rt);
+    fit(rt, words, odd, takes)?;
+    if word::naming(rt) {
+        names::lines(rt, words, takes)?;
+        return Err(Stop::Ended(End::Answered(0)));
     }
-    Given::Ended
+    Ok(words)
 }

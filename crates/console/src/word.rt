@@ -2,33 +2,28 @@
 // what is told of some word.
 ghost use Rattle.std.specs.Prelude.{[], ◌∷◌, ◌≡◌, ◌≤◌};
 ghost use Rattle.chip.specs.Lists.{same as same_lists};
-ghost use Rattle.typed.specs.Numbers.{number_of, spells_key, key_after};
-ghost use Rattle.console.specs.Given.{Some};
-ghost use Rattle.io.specs.Counts.{IsPrefixLen};
+ghost use Rattle.typed.specs.Numbers.{number_of, key_spelled};
+ghost use Rattle.console.specs.Given.{SomeWord};
 ghost use Rattle.std.specs.Io.{ReadsAtMost};
 
-use crate::errors::{ENAMETOOLONG, unfilled};
 use crate::shown;
 use std::env::{Env, FillError};
-use typed::numbers::{Number, key_of, of_text};
+use std::io;
+use typed::numbers;
 use typed::words::same;
 
-// Puts a word at the start of some bytes: how long it is, or the system's error where there is none or where it is longer. Then the bytes
-// are its beginning.
-pub(crate) fn put(rt: &HostRuntime, place: usize, bytes: &mut [u8]) -> Result<usize, i32>
+// Puts a word at the start of some bytes: how long it is, or why not, where there is none or where it is longer. Then the bytes are its
+// beginning.
+pub(crate) fn put(rt: &HostRuntime, place: usize, bytes: &mut [u8]) -> Result<usize, FillError>
     ensures { ReadsAtMost result bytes.new }
 {
-    match rt.arg(place, bytes) {
-        Ok(n) => Ok(n),
-        Err(error) => Err(unfilled(error)),
-    }
+    rt.arg(place, bytes)
 }
 
 // The same, where a word that is missing or longer is one of no bytes.
-pub(crate) fn read(rt: &HostRuntime, place: usize, bytes: &mut [u8]) -> usize
-    ensures { IsPrefixLen result bytes.new }
-{
-    put(rt, place, bytes).unwrap_or(0)
+pub(crate) fn read<'a>(rt: &HostRuntime, place: usize, bytes: &'a mut [u8]) -> &'a [u8] {
+    let n = put(rt, place, bytes).unwrap_or(0);
+    &bytes[..n]
 }
 
 // How many words there are, the program's name among them.
@@ -44,16 +39,15 @@ pub(crate) fn arg_count(rt: &HostRuntime) -> usize {
 
 // Whether a word is the one named, which is shorter than 16 bytes.
 pub fn is(rt: &HostRuntime, place: usize, name: &[u8]) -> bool
-    ensures { Some (λ word. result ≡ same_lists word name.now) }
+    ensures { SomeWord (λ word. result ≡ same_lists word name.now) }
 {
     let mut word = [0u8; 16];
-    let n = read(rt, place, &mut word);
-    same(&word[..n], name)
+    same(read(rt, place, &mut word), name)
 }
 
 // Whether the program is only to say which files the command would read and write. The script ./otp asks that first.
 pub fn naming(rt: &HostRuntime) -> bool
-    ensures { Some (λ word. result ≡ same_lists word (45 ∷ 45 ∷ 110 ∷ 97 ∷ 109 ∷ 101 ∷ 115 ∷ [])) }
+    ensures { SomeWord (λ word. result ≡ same_lists word (45 ∷ 45 ∷ 110 ∷ 97 ∷ 109 ∷ 101 ∷ 115 ∷ [])) }
 {
     is(rt, 1, b"--names")
 }
@@ -62,44 +56,38 @@ pub fn naming(rt: &HostRuntime) -> bool
 pub fn command(rt: &HostRuntime) -> usize
     ensures { (1 ≤ result) × (result ≤ 2) }
 {
-    if naming(rt) {
-        return 2;
-    }
-    1
+    if naming(rt) { 2 } else { 1 }
 }
 
 // Whether a word is an option.
 pub(crate) fn is_option(rt: &HostRuntime, place: usize) -> bool {
     let mut word = [0u8; 16];
-    read(rt, place, &mut word);
+    let _ = put(rt, place, &mut word);
     word[0] == b'-'
 }
 
 // The number that a word spells.
-pub fn number(rt: &HostRuntime, place: usize) -> Number
-    ensures { Some (λ word. result ≡ number_of word) }
+pub fn number(rt: &HostRuntime, place: usize) -> Option<u32>
+    ensures { SomeWord (λ word. result ≡ number_of word) }
 {
     let mut word = [0u8; 32];
-    let n = read(rt, place, &mut word);
-    of_text(&word[..n])
+    numbers::of_text(read(rt, place, &mut word))
 }
 
-// The key that a word spells. False where it spells none.
-pub fn key(rt: &HostRuntime, place: usize, key: &mut [u8; 16]) -> bool
-    ensures spells { Some (λ word. result ≡ spells_key word) }
-    ensures put { Some (λ word. key.new ≡ key_after word key.old) }
+// The key that a word spells.
+pub fn key(rt: &HostRuntime, place: usize) -> Option<[u8; 16]>
+    ensures { SomeWord (λ word. result ≡ key_spelled word) }
 {
     let mut word = [0u8; 48];
-    let n = read(rt, place, &mut word);
-    key_of(&word[..n], key)
+    numbers::key_of(read(rt, place, &mut word))
 }
 
-// A word on the screen, or the beginning of one that is longer than any path.
-pub fn print(rt: &HostRuntime, place: usize) {
+// A word on the screen, or the beginning of one that is longer than any path. A word that is not there has no bytes.
+pub fn print(rt: &HostRuntime, place: usize) -> io::Result<()> {
     let mut word = [0u8; 4096];
     match put(rt, place, &mut word) {
-        Ok(n) => shown::whole(&word[..n]),
-        Err(ENAMETOOLONG) => shown::beginning(&word),
-        Err(_) => {}
+        Ok(n) => shown::whole(rt, &word[..n]),
+        Err(FillError::TooLong) => shown::beginning(rt, &word),
+        Err(FillError::NotPresent) => Ok(()),
     }
 }
