@@ -1,1 +1,2 @@
+pub mod Judged
 pub mod Staying

@@ -7,14 +7,15 @@ use answer::answers::Answer;
 use chip::slices::put;
 use chip::state::{Outcome, State, Tallies};
 use chip::tallies::gain;
+use row::writing::Burnt;
 
 // Burns a row, and counts the bits that it gained.
-pub fn burn_row(rows: &mut [u32], tallies: &mut [u16], row: u32, left: u32, bits: u32)
-    ensures { (rows.new ≡ set rows.old row left)
-        × (tallies.new ≡ with_gain tallies.old (row gains bits)) }
+pub fn burn_row(rows: &mut [u32], tallies: &mut [u16], row: u32, burnt: Burnt)
+    ensures { (rows.new ≡ set rows.old row burnt.row)
+        × (tallies.new ≡ with_gain tallies.old (row gains burnt.pulses)) }
 {
-    put(rows, row, left);
-    gain(tallies, row, bits);
+    put(rows, row, burnt.row);
+    gain(tallies, row, burnt.pulses);
 }
 
 // The state beside an answer. The tallies come by themselves, since no field of a state can be lent to what counts them; so the state is
@@ -22,10 +23,8 @@ pub fn burn_row(rows: &mut [u32], tallies: &mut [u16], row: u32, left: u32, bits
 pub fn beside(answer: Answer, state: State, tallies: Tallies) -> Outcome
     ensures { result ≡ spec.beside answer state tallies }
 {
-    let mut next = state;
-    next.tallies = tallies;
     Outcome {
         answer,
-        state: next,
+        state: State { tallies, ..state },
     }
 }

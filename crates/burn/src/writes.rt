@@ -1,34 +1,69 @@
 // The writes: raw and ECC (document 01).
-ghost use Rattle.std.specs.Prelude.{◌≡◌, eqb, set};
-ghost use Rattle.answer.specs.Answers.{answered, spent as spent_of};
-ghost use Rattle.std.specs.Prelude.{if◌then◌else◌};
-ghost use Rattle.answer.specs.Rungs.{or_else};
+ghost use Rattle.std.specs.Prelude.{◌≡◌, IfOk, MatchResult, set};
+ghost use Rattle.answer.specs.Answers.{refused, spent as spent_of};
+ghost use Rattle.answer.specs.Refusals.{number_of, refusal_number};
+ghost use Rattle.row.specs.Writing.{raw_written as written_raw, ecc_written as written_ecc, done_with};
+ghost use Rattle.chip.specs.Slices.{row_at};
 ghost use Rattle.chip.specs.Tallies.{◌gains◌, with_gain};
 ghost use Rattle.burn.specs.Writes as spec;
 
 use crate::burning::{beside, burn_row};
-use access::judging::call_number;
-use answer::answers::{Answer, refused, spent};
+use access::judging::check_call;
+use answer::answers::{Answer, spent};
+use answer::refusals::Refusal;
 use chip::slices::{MOST_HELD, row_at};
 use chip::state::{Outcome, State};
 use permit::permission::may_write;
-use row::writing::Written;
+use row::writing::Burnt;
 
-// Burns one row and counts its new bits, unless the call is refused or what it would write does not fit, and answers.
-fn burn(rows: &mut [u32], tallies: &mut [u16], number: u32, row: u32, written: Written) -> Answer
-    ensures { (result ≡ answered (or_else number written.number) (spent_of 0 written.pulses))
-        × (rows.new ≡ (if eqb (or_else number written.number) 0 then set rows.old row written.row else rows.old))
-        × (tallies.new ≡ (if eqb (or_else number written.number) 0 then with_gain tallies.old (row gains written.pulses) else tallies.old)) }
+// What a raw write burns into a row, or why it is refused.
+fn raw_burnt(
+    rows: &[u32],
+    state: State,
+    caller: u32,
+    row: u32,
+    value: u32,
+) -> Result<Burnt, Refusal>
+    ensures number { number_of result ≡ spec.write_raw_number rows.now state caller row value }
+    ensures burnt { IfOk result (λ burnt. done_with burnt ≡ written_raw (row_at rows.now row) value) }
 {
-    if number != 0 {
-        return refused(number);
+    let may = may_write(state, caller, row);
+    check_call(rows, state, caller, row, false, MOST_HELD < value, may)?;
+    Ok(row::writing::write_raw(row_at(rows, row), value))
+}
+
+// What an ECC write burns into a row, or why it is refused.
+#[tactic(auto, using(crate::proofs::Judged::call_refused, crate::proofs::Judged::value_of_16_bits, crate::proofs::Judged::row_refused))]
+fn ecc_burnt(
+    rows: &[u32],
+    state: State,
+    caller: u32,
+    row: u32,
+    value: u32,
+) -> Result<Burnt, Refusal>
+    ensures number { number_of result ≡ spec.write_ecc_number rows.now state caller row value }
+    ensures burnt { IfOk result (λ burnt. done_with burnt ≡ written_ecc (row_at rows.now row) value) }
+{
+    let may = may_write(state, caller, row);
+    check_call(rows, state, caller, row, true, 65535 < value, may)?;
+    row::writing::write_ecc(row_at(rows, row), value as u16)
+}
+
+// Burns one row and counts its new bits, and answers. A refused write leaves the rows and the tallies as they were.
+fn burn(rows: &mut [u32], tallies: &mut [u16], row: u32, written: Result<Burnt, Refusal>) -> Answer
+    ensures { MatchResult written
+        (λ burnt. (result ≡ spent_of 0 burnt.pulses)
+        × (rows.new ≡ set rows.old row burnt.row)
+        × (tallies.new ≡ with_gain tallies.old (row gains burnt.pulses)))
+        (λ refusal. (result ≡ refused (refusal_number refusal)) × (rows.new ≡ rows.old) × (tallies.new ≡ tallies.old)) }
+{
+    match written {
+        Ok(burnt) => {
+            burn_row(rows, tallies, row, burnt);
+            spent(0, burnt.pulses)
+        }
+        Err(refusal) => refusal.into(),
     }
-    let unfit = written.number;
-    if unfit != 0 {
-        return refused(unfit);
-    }
-    burn_row(rows, tallies, row, written.row, written.pulses);
-    spent(0, written.pulses)
 }
 
 // Burns the bits of a value into a row.
@@ -36,11 +71,9 @@ pub fn write_raw(rows: &mut [u32], state: State, caller: u32, row: u32, value: u
     ensures { (result ≡ (spec.write_raw rows.old state caller row value).outcome)
         × (rows.new ≡ (spec.write_raw rows.old state caller row value).rows) }
 {
-    let may = may_write(state, caller, row);
-    let number = call_number(rows, state, caller, row, false, MOST_HELD < value, may);
-    let written = row::writing::write_raw(row_at(rows, row), value);
+    let written = raw_burnt(rows, state, caller, row, value);
     let mut tallies = state.tallies;
-    let answer = burn(rows, &mut tallies, number, row, written);
+    let answer = burn(rows, &mut tallies, row, written);
     beside(answer, state, tallies)
 }
 
@@ -49,10 +82,8 @@ pub fn write_ecc(rows: &mut [u32], state: State, caller: u32, row: u32, value: u
     ensures { (result ≡ (spec.write_ecc rows.old state caller row value).outcome)
         × (rows.new ≡ (spec.write_ecc rows.old state caller row value).rows) }
 {
-    let may = may_write(state, caller, row);
-    let number = call_number(rows, state, caller, row, true, 65535 < value, may);
-    let written = row::writing::write_ecc(row_at(rows, row), (value % 65536) as u16);
+    let written = ecc_burnt(rows, state, caller, row, value);
     let mut tallies = state.tallies;
-    let answer = burn(rows, &mut tallies, number, row, written);
+    let answer = burn(rows, &mut tallies, row, written);
     beside(answer, state, tallies)
 }
