@@ -1,23 +1,28 @@
 // Keys: matching the entered one, the key level of a page, and the rows that are hidden (document 01, "Keys").
-ghost use Rattle.std.specs.Prelude.{◌≡◌};
+ghost use Rattle.std.specs.Prelude.{◌≡◌, map, fold, bit_or, bit_xor};
+ghost use Rattle.std.specs.List.{zip};
 ghost use Rattle.permit.specs.Keys as spec;
 ghost use Rattle.chip.specs.Lists.{same as same_lists};
 
 use chip::pages::Page;
 use chip::state::{State, Words, counted_index, counted_no_key};
 
+// The bits in which some words differ, put together.
+fn differing(a: &[u16], b: &[u16]) -> u16
+    ensures { result ≡ fold (λ bits word. bit_or bits word) 0 (map (λ pair. bit_xor pair.0 pair.1) (zip a.now b.now)) }
+{
+    a.iter()
+        .zip(b)
+        .map(|(one, other)| *one ^ *other)
+        .fold(0, |bits, word| bits | word)
+}
+
 // Whether two keys have the same words. All eight are compared before the one test, wherever they differ: a test at each word would tell by
 // its time how much of a key is right.
 fn same(a: Words, b: Words) -> bool
     ensures { result ≡ same_lists a b }
 {
-    let mut differing = 0;
-    let mut i = 0;
-    while i < 8 {
-        differing = differing | (a[i] ^ b[i]);
-        i += 1;
-    }
-    differing == 0
+    differing(&a, &b) == 0
 }
 
 // Whether the key of an index matches the entered one, by one test of all that is secret of it.
@@ -25,21 +30,16 @@ fn same(a: Words, b: Words) -> bool
 pub fn matches(state: State, index: u32) -> bool
     ensures { result ≡ spec.matches state index }
 {
-    if index < 1 {
+    if !(1..=6).contains(&index) {
         return false;
     }
-    if 6 < index {
-        return false;
-    }
-    let at = (index - 1) as usize;
     let keys = state.keys;
-    let key = keys[at];
+    let key = keys[(index - 1) as usize];
     if !key.valid {
         return false;
     }
-    let words = key.words;
     let entered = state.entered;
-    let equal = same(words, entered);
+    let equal = same(key.words, entered);
     let none = same(entered, [0; 8]);
     key.whole & equal & !none
 }
@@ -54,20 +54,15 @@ pub fn key_level(state: State, page: Page) -> u32
     let nokeys = state.nokey;
     let writekey = counted_index(writekeys, page);
     let readkey = counted_index(readkeys, page);
-    if writekey == 0 {
-        if readkey == 0 {
-            return 0;
-        }
+    if writekey == 0 && readkey == 0 {
+        return 0;
     }
     if matches(state, writekey) {
         return 0;
     }
     let by_read_key = matches(state, readkey);
     let closed = counted_no_key(nokeys, page);
-    if by_read_key | !closed {
-        return 1;
-    }
-    2
+    if by_read_key | !closed { 1 } else { 2 }
 }
 
 // Whether a row is one of a latched valid key.
@@ -75,14 +70,9 @@ pub fn key_level(state: State, page: Page) -> u32
 pub fn hidden(state: State, row: u32) -> bool
     ensures { result ≡ spec.hidden state row }
 {
-    if row < Page::FIRST_KEY_ROW {
+    if !(Page::FIRST_KEY_ROW..Page::PAST_KEY_ROWS).contains(&row) {
         return false;
     }
-    if Page::PAST_KEY_ROWS <= row {
-        return false;
-    }
-    let at = ((row - Page::FIRST_KEY_ROW) / 8) as usize;
     let keys = state.keys;
-    let key = keys[at];
-    key.valid
+    keys[((row - Page::FIRST_KEY_ROW) / 8) as usize].valid
 }

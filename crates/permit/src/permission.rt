@@ -28,9 +28,7 @@ fn read_level(state: State, caller: u32, row: u32) -> u32
     let own = caller_level(state, caller, row);
     if caller == BOOTLOADER {
         let secure = caller_level(state, SECURE, row);
-        if own < secure {
-            return secure;
-        }
+        return own.max(secure);
     }
     own
 }
@@ -40,13 +38,8 @@ fn read_level(state: State, caller: u32, row: u32) -> u32
 pub fn may_read(state: State, caller: u32, row: u32) -> bool
     ensures { result ≡ spec.may_read state caller row }
 {
-    if Page::FIRST_LOCK_ROW <= row {
-        return true;
-    }
-    if 1 < read_level(state, caller, row) {
-        return false;
-    }
-    row_key_level(state, row) <= 1
+    Page::FIRST_LOCK_ROW <= row
+        || read_level(state, caller, row) <= 1 && row_key_level(state, row) <= 1
 }
 
 // Whether a row may be written by Secure, or by Secure for another caller.
@@ -54,13 +47,9 @@ pub fn may_read(state: State, caller: u32, row: u32) -> bool
 pub fn may_write(state: State, caller: u32, row: u32) -> bool
     ensures { result ≡ spec.may_write state caller row }
 {
-    if caller_level(state, caller, row) != 0 {
-        return false;
-    }
-    if caller_level(state, SECURE, row) != 0 {
-        return false;
-    }
-    row_key_level(state, row) == 0
+    caller_level(state, caller, row) == 0
+        && caller_level(state, SECURE, row) == 0
+        && row_key_level(state, row) == 0
 }
 
 // Whether the same levels and the same key settings decide both rows: who may write one may then write the other. A job asks it of
@@ -68,14 +57,8 @@ pub fn may_write(state: State, caller: u32, row: u32) -> bool
 pub fn share_permission(a: u32, b: u32) -> bool
     ensures { result ≡ spec.share_permission a b }
 {
-    if a < Page::FIRST_LOCK_ROW {
-        if b < Page::FIRST_LOCK_ROW {
-            return a / Page::ROWS == b / Page::ROWS;
-        }
+    if a < Page::FIRST_LOCK_ROW && b < Page::FIRST_LOCK_ROW {
+        return a / Page::ROWS == b / Page::ROWS;
     }
-    let owner_of_a = Page::owner(a);
-    let owner_of_b = Page::owner(b);
-    let key_page_of_a = Page::key_page(a);
-    let key_page_of_b = Page::key_page(b);
-    owner_of_a.number == owner_of_b.number && key_page_of_a.number == key_page_of_b.number
+    Page::owner(a) == Page::owner(b) && Page::key_page(a) == Page::key_page(b)
 }

@@ -1,48 +1,41 @@
--- `permit::keys::same`: no bit differs after a word exactly if none did before and the word is the same.
+-- `permit::keys::same`: no bit differs of all the words exactly if each word is the same.
+-- Assumes nothing.
 use mathlib.Core.Bool.{Bool, true, false, ◌&&◌, and-true, and_assoc}
-use mathlib.Core.Path.{◌≡◌, refl, sym, ap, ap₂, ◌∙◌}
-use Prim.Native.Nat.{ℕ, suc, ◌+◌, ◌<◌}
-use native.Mathlib.Numerals.{add-one}
+use mathlib.Core.List.{List, [], ◌∷◌, map}
+use mathlib.Core.Path.{◌≡◌, refl, sym, ap, ◌∙◌}
+use Prim.Native.Nat.{ℕ}
+use native.Mathlib.Nat.{suc_inj}
 use native.Mathlib.Omega.{arith}
 use borrow.Author.Tests.{ne_eqb, eqb-true, eqb-false}
 use lib.Bits.{bit_or, bit_xor, or_add_and, or_zero_l, and_le_l, and_le_r, xor_add_and, xor_self}
 use lib.Dec.{eqb}
-use lib.ListN.{length, get_or, drop}
-use lib.Seq.{drop-cons}
-use mathlib.Core.List.{List}
+use lib.ListN.{length}
+use Rattle.std.specs.List.{fold, zip}
 use Rattle.chip.specs.Lists.{same}
-use Rattle.chip.proofs.Lists.{same_end}
 use Rattle.permit.proofs.keys.same.Goals as goal
 
-none_differs : (differing a b : ℕ) → eqb (bit_or differing (bit_xor a b)) 0 ≡ (eqb differing 0 && eqb a b)
-none_differs differing a b = go (eqb differing 0) (eqb a b) refl refl
+none_differs : (bits a b : ℕ) → eqb (bit_or bits (bit_xor a b)) 0 ≡ (eqb bits 0 && eqb a b)
+none_differs bits a b = go (eqb bits 0) (eqb a b) refl refl
   where
-    bits : ℕ
-    bits = bit_xor a b
+    word : ℕ
+    word = bit_xor a b
 
-    go : (t t' : Bool) → eqb differing 0 ≡ t → eqb a b ≡ t' → eqb (bit_or differing bits) 0 ≡ (t && t')
-    go true true e e' = rw (eqb-true differing 0 e, eqb-true a b e', or_zero_l (bit_xor b b), xor_self b)
-    go true false e e' = ne_eqb (bit_or differing bits) 0 (λ none. eqb-false a b e' (omega (arith, none, or_add_and differing bits, and_le_l differing bits, xor_add_and a b, and_le_l a b, and_le_r a b)))
-    go false t' e e' = ne_eqb (bit_or differing bits) 0 (λ none. eqb-false differing 0 e (omega (arith, none, or_add_and differing bits, and_le_r differing bits)))
+    go : (t t' : Bool) → eqb bits 0 ≡ t → eqb a b ≡ t' → eqb (bit_or bits word) 0 ≡ (t && t')
+    go true true e e' = rw (eqb-true bits 0 e, eqb-true a b e', or_zero_l (bit_xor b b), xor_self b)
+    go true false e e' = ne_eqb (bit_or bits word) 0 (λ none. eqb-false a b e' (omega (arith, none, or_add_and bits word, and_le_l bits word, xor_add_and a b, and_le_l a b, and_le_r a b)))
+    go false t' e e' = ne_eqb (bit_or bits word) 0 (λ none. eqb-false bits 0 e (omega (arith, none, or_add_and bits word, and_le_r bits word)))
 
 -- the words compared one after the other
-word_next : (a b : List ℕ) (i differing : ℕ) → i < length a → i < length b
-    → (eqb differing 0 && same (drop i a) (drop i b))
-    ≡ (eqb (bit_or differing (bit_xor (get_or a i 0) (get_or b i 0))) 0 && same (drop (i + 1) a) (drop (i + 1) b))
+compared : (a b : List ℕ) (bits : ℕ) → length a ≡ length b
+    → eqb (fold (λ seen word. bit_or seen word) bits (map (λ (pair : ℕ × ℕ). bit_xor pair.0 pair.1) (zip a b))) 0 ≡ (eqb bits 0 && same a b)
 unfolding same
-word_next a b i differing ha hb =
-    rw (add-one, drop-cons a i 0 ha, drop-cons b i 0 hb, none_differs differing (get_or a i 0) (get_or b i 0))
-    (sym (and_assoc (eqb differing 0) (eqb (get_or a i 0) (get_or b i 0)) (same (drop (suc i) a) (drop (suc i) b))))
-
-pub loop-i-preserved : goal.loop-i-preserved
-loop-i-preserved c =
-    (omega arith, c.loop-i.invariant.1 ∙ word_next c.args.a c.args.b c.loop-i.i c.loop-i.differing (omega arith) (omega arith))
+compared [] [] bits e = sym (and-true (eqb bits 0))
+compared [] (y ∷ b) bits e = absurd (omega (arith, e))
+compared (x ∷ a) [] bits e = absurd (omega (arith, e))
+compared (x ∷ a) (y ∷ b) bits e =
+    compared a b (bit_or bits (bit_xor x y)) (suc_inj e)
+    ∙ ap (λ (t : Bool). t && same a b) (none_differs bits x y)
+    ∙ and_assoc (eqb bits 0) (eqb x y) (same a b)
 
 pub returns : goal.returns
-returns c =
-    let i = c.loop-i.i in
-    let la : i ≡ length c.args.a = omega arith in
-    let lb : i ≡ length c.args.b = omega arith in
-    let compared : same (drop i c.args.a) (drop i c.args.b) ≡ true =
-    ap₂ (λ (m n : ℕ). same (drop m c.args.a) (drop n c.args.b)) la lb ∙ same_end c.args.a c.args.b in
-    sym (c.loop-i.invariant.1 ∙ ap (λ (rest : Bool). eqb c.loop-i.differing 0 && rest) compared ∙ and-true (eqb c.loop-i.differing 0))
+returns c = ap (λ (bits : ℕ). eqb bits 0) c.differing.ensures ∙ compared c.args.a c.args.b 0 (omega arith)
