@@ -20,7 +20,7 @@ use Rattle.form.specs.declared.entries.Entry.{Entry}
 use Rattle.job.specs.Burning.{Progress, all_written, all_pulses, all_gained}
 use Rattle.job.specs.Jobs.{carried_out, run_job}
 use Rattle.judge.specs.Verdicts.{entry_rungs, all_rungs, verdict_of}
-use Rattle.judge.specs.declared.verdicts.Verdict.{Verdict}
+use Rattle.judge.specs.Verdicts.{Verdict}
 use Rattle.form.proofs.Faulty.{both_sound, order_sound}
 use Rattle.form.proofs.Placed.{row_kept}
 use Rattle.judge.proofs.Upward.{entry_next, entry_none}

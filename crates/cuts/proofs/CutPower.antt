@@ -16,7 +16,7 @@ use Rattle.form.specs.declared.entries.Entry.{Entry}
 use Rattle.job.specs.Burning.{written_over, with_entry, all_written}
 use Rattle.job.specs.Jobs.{run_job}
 use Rattle.judge.specs.Verdicts.{verdict_of}
-use Rattle.judge.specs.declared.verdicts.Verdict.{Verdict}
+use Rattle.judge.specs.Verdicts.{Verdict}
 use Rattle.laws.specs.Votes.{EachIn}
 use Rattle.chip.specs.Slices.{row_at}
 use Rattle.cuts.specs.Cuts.{Keyed, ready, Bytes, accepted_on, CutOf, Cuts, Completes, NoLockPulse, CutPower}

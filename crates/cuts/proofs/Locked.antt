@@ -20,7 +20,7 @@ use Rattle.burn.specs.Burning.{Left}
 use Rattle.job.specs.Burning.{written_over, with_entry, all_written}
 use Rattle.job.specs.Jobs.{run_job}
 use Rattle.judge.specs.Verdicts.{entry_rungs, all_rungs, verdict_of}
-use Rattle.judge.specs.declared.verdicts.Verdict.{Verdict}
+use Rattle.judge.specs.Verdicts.{Verdict}
 use Rattle.judge.proofs.Upward.{entry_next}
 use Rattle.laws.proofs.Between.{each_length, each_held}
 use Rattle.cuts.specs.Cuts.{ready, CutOf, Cuts, Completes}

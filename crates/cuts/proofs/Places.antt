@@ -26,7 +26,7 @@ use Rattle.form.specs.declared.entries.Entry.{Entry}
 use Rattle.job.specs.Burning.{Progress, rehearsed}
 use Rattle.job.specs.Jobs.{carried_out, run_job, rehearse}
 use Rattle.judge.specs.Verdicts.{unfit, entry_rungs, all_rungs, verdict, verdict_of}
-use Rattle.judge.specs.declared.verdicts.Verdict.{Verdict}
+use Rattle.judge.specs.Verdicts.{Verdict}
 use Rattle.judge.proofs.Upward.{entry_stops, entry_next}
 use Rattle.job.proofs.Whole.{finished}
 use Rattle.laws.specs.Calls.{Chip, Result, a_job, perform}

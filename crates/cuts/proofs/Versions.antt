@@ -7,7 +7,7 @@ use borrow.Author.Tests.{ne_eqb}
 use Rattle.chip.specs.declared.state.State.{State}
 use Rattle.form.specs.Entries.{version_of, entries_of}
 use Rattle.judge.specs.Verdicts.{verdict_of}
-use Rattle.judge.specs.declared.verdicts.Verdict.{Verdict}
+use Rattle.judge.specs.Verdicts.{Verdict}
 use Rattle.job.specs.Burning.{rehearsed}
 use Rattle.job.specs.Jobs.{carried_out, ran_as, run_job, rehearse}
 use Rattle.cuts.specs.Versions.{verdict_as_one, VersionOneStays}

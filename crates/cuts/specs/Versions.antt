@@ -8,7 +8,7 @@ use Rattle.form.specs.Entries.{version_of, entries_of}
 use Rattle.form.specs.Faults.{fault_number, fault_under}
 use Rattle.form.specs.declared.entries.Entry.{Entry}
 use Rattle.judge.specs.Verdicts.{all_rungs, verdict}
-use Rattle.judge.specs.declared.verdicts.Verdict.{Verdict}
+use Rattle.judge.specs.Verdicts.{Verdict}
 use Rattle.job.specs.Burning.{rehearsed}
 use Rattle.job.specs.Jobs.{carried_out, ran_as, run_job, rehearse}
 use Rattle.cuts.specs.Cuts.{Keyed, ready, Bytes, accepted_on, Cuts, Completes}

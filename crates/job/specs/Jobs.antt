@@ -6,7 +6,7 @@ use Rattle.burn.specs.Burning.{Left, burnt, kept}
 use Rattle.form.specs.Entries.{count_of, entries_of}
 use Rattle.job.specs.Burning.{Progress, all_written, all_pulses, all_gained, rehearsed}
 use Rattle.judge.specs.Verdicts.{verdict_of}
-use Rattle.judge.specs.declared.verdicts.Verdict.{Verdict}
+use Rattle.judge.specs.Verdicts.{Verdict}
 
 -- number 0: its rows are burnt; any other is a refusal, with its place
 abbrev pub carried_out : Verdict → List ℕ → State → Progress → Left

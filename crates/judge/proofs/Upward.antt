@@ -1,35 +1,53 @@
 -- Judging in order: a fault, or an entry that is refused, answers for the whole, and any other hands on to what is left.
 -- Assumes nothing.
-use mathlib.Core.Path.{◌≡◌, refl, ap}
+use mathlib.Core.Path.{◌≡◌, refl}
 use mathlib.Core.Bool.{Bool, true, false, not}
 use mathlib.Core.List.{List, [], ◌∷◌, ◌++◌}
-use mathlib.Core.Logic.{⊎_elim}
 use Prim.Native.Nat.{ℕ, ◌+◌, ◌-◌, ◌<◌}
 use native.Mathlib.Omega.{arith}
 use lib.Dec.{eqb}
+use Rattle.answer.specs.Refusals.{refusal_number}
 use Rattle.answer.specs.Rungs.{Rung, ◌when◌, ◌of_entry◌, first_of}
 use Rattle.permit.specs.Permission.{may_write}
 use Rattle.chip.specs.Slices.{row_at, too_large}
 use Rattle.chip.specs.declared.state.State.{State}
 use Rattle.form.specs.Entries.{entry_at, entries_from}
-use Rattle.form.specs.Faults.{fault_number, Fault}
+use Rattle.form.specs.Faults.{fault_number, Sound}
+use Rattle.form.specs.Faults as faults
+use Rattle.form.specs.Said.{found, refusal_of}
 use Rattle.form.specs.declared.entries.Entry.{Entry}
+use Rattle.form.specs.declared.faults.Fault.{Fault}
+use Rattle.form.specs.declared.faults.Fault.TheVariants.{Short, Mark, Version, Count, Length, Kind, Value, High, Kept, Past, Coded, Late, Order}
 use Rattle.judge.specs.Verdicts.{unfit, entry_rungs, all_rungs, verdict}
-use Rattle.form.proofs.Faulty.{one_of}
 use Rattle.form.proofs.Upward.{next_left}
 
 -- ---- the two rungs of a fault, and then the rest
 
 module _ (rest : List Rung) where
-  abbrev by_fault : Fault → List Rung
+  abbrev by_fault : faults.Fault → List Rung
   by_fault fault = 10 when eqb (fault_number fault) 10 ∷ 11 when eqb (fault_number fault) 11 ∷ rest
 
-  pub rungs_stop : (fault : Fault) → (fault_number fault ≡ 0 → ⊥) → verdict (by_fault fault) ≡ record { number = fault_number fault; place = 0 }
-  rungs_stop fault some =
-      ⊎_elim (λ sound. absurd (some (ap fault_number sound))) (⊎_elim (λ ten. rw ten) (λ eleven. rw eleven)) (one_of fault)
+  stops_by : (fault : Fault) → verdict (by_fault (found fault)) ≡ record { number = refusal_number (refusal_of fault); place = 0 }
+  stops_by Short = refl
+  stops_by Mark = refl
+  stops_by Version = refl
+  stops_by Count = refl
+  stops_by Length = refl
+  stops_by (Kind i) = refl
+  stops_by (Value i) = refl
+  stops_by (High i) = refl
+  stops_by (Kept i) = refl
+  stops_by (Past i) = refl
+  stops_by (Coded i) = refl
+  stops_by (Late i) = refl
+  stops_by (Order i) = refl
 
-  pub rungs_next : (fault : Fault) → fault_number fault ≡ 0 → verdict (by_fault fault) ≡ verdict rest
-  rungs_next fault none = rw none
+  pub rungs_stop : (fault : Fault) (this : faults.Fault) → found fault ≡ this
+      → verdict (by_fault this) ≡ record { number = refusal_number (refusal_of fault); place = 0 }
+  rungs_stop fault this e = rw (← e) (stops_by fault)
+
+  pub rungs_next : (this : faults.Fault) → Sound ≡ this → verdict (by_fault this) ≡ verdict rest
+  rungs_next this e = rw (← e)
 
 -- ---- the three rungs of an entry, and then the rest
 

@@ -1,17 +1,22 @@
 -- How a job is judged, whole, before the first pulse (document 01, "Jobs").
-use Rattle.std.specs.Prelude.{ℕ, ◌+◌, Bool, not, ◌&&◌, List, [], ◌∷◌, ◌++◌, eqb}
+use Rattle.std.specs.Prelude.{ℕ, ◌+◌, Bool, not, ◌&&◌, List, [], ◌∷◌, ◌++◌, Result, Ok, Err, eqb}
 use Rattle.std.specs.Prelude.{if◌then◌else◌}
 use Rattle.decode.specs.Reading.{data_of}
+use Rattle.answer.specs.Refusals.{refusal_number}
 use Rattle.answer.specs.Rungs.{Rung, ◌when◌, ◌of_entry◌, first_of, place_of}
-use Rattle.row.specs.Writing.{ecc_written, raw_written, neither_fits}
-use Rattle.row.specs.Writing.{Written}
+use Rattle.row.specs.Writing.{Written, ecc_written, raw_written, neither_fits}
 use Rattle.permit.specs.Permission.{may_write}
 use Rattle.chip.specs.Slices.{row_at, not_whole, too_large}
 use Rattle.chip.specs.declared.state.State.{State}
 use Rattle.form.specs.Entries.{entries_of}
 use Rattle.form.specs.Faults.{malformed, out_of_order}
 use Rattle.form.specs.declared.entries.Entry.{Entry}
-use Rattle.judge.specs.declared.verdicts.Verdict.{Verdict}
+use Rattle.judge.specs.declared.verdicts.Refused.{Refused}
+
+-- the number of a job, and the place that goes with it
+pub record Verdict : Type 0 where
+  pub number : ℕ
+  pub place : ℕ
 
 -- what writing an entry over a row gives; an ECC entry writes the 16 bits of its value
 unfoldable pub entry_written : ℕ → Entry → Written
@@ -42,3 +47,8 @@ verdict rungs = record { number = first_of rungs; place = place_of rungs }
 
 unfoldable pub verdict_of : List ℕ → State → List ℕ → Verdict
 verdict_of rows state job = verdict (job_rungs rows state job)
+
+-- a verdict as the code gives it: nothing where a job is accepted, or why it is refused and where
+abbrev pub given : Result (Unit {0}) Refused → Verdict
+given (Ok accepted) = record { number = 0; place = 0 }
+given (Err refused) = record { number = refusal_number refused.refusal; place = refused.place }

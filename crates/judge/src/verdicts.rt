@@ -1,34 +1,66 @@
 // Judging a job whole, before the first pulse (document 01, "Jobs").
 ghost use Rattle.std.specs.Prelude.{◌≡◌};
+ghost use Rattle.answer.specs.Answers.{refused_at};
+ghost use Rattle.answer.specs.Refusals.{refusal_number, number_of};
 ghost use Rattle.answer.specs.Rungs.{first_of};
+ghost use Rattle.row.specs.Writing.{written_by};
 ghost use Rattle.permit.specs.Permission.{may_write};
 ghost use Rattle.form.specs.Entries.{entries_from};
+ghost use Rattle.form.specs.Said.{refusal_of};
 ghost use Rattle.judge.specs.Verdicts as spec;
 
+use answer::answers::{Answer, refused_at};
+use answer::refusals::Refusal;
 use chip::pages::Page;
 use chip::slices::{MOST_HELD, row_at};
 use chip::state::State;
 use form::entries::{Entry, count_of, entry_at};
-use form::faults::{fault_number, fault_of};
+use form::faults::{Fault, fault_of};
 use permit::permission::{may_write, share_permission};
-use row::writing::{Written, write_ecc, write_raw};
+use row::writing::{Burnt, write_ecc, write_raw};
 
-// The number of a job, and the place that goes with it.
-#[derive(Clone, Copy)]
-pub struct Verdict {
-    pub number: u32,
+// Why a job is refused, and the place that goes with it.
+#[derive(Clone, Copy, Debug, PartialEq, Eq)]
+pub struct Refused {
+    pub refusal: Refusal,
     pub place: u32,
 }
 
+// A refusal of the whole job has place 0.
+impl From<Refusal> for Refused {
+    ghost from_gives = { λ refusal refused. refused ≡ record { refusal = refusal; place = 0 } };
+
+    fn from(refusal: Refusal) -> Refused {
+        Refused { refusal, place: 0 }
+    }
+}
+
+impl From<Fault> for Refused {
+    ghost from_gives = { λ fault refused. refused ≡ record { refusal = refusal_of fault; place = 0 } };
+
+    fn from(fault: Fault) -> Refused {
+        fault.refusal().into()
+    }
+}
+
+impl From<Refused> for Answer {
+    ghost from_gives = { λ refused answer. answer ≡ refused_at (refusal_number refused.refusal) refused.place };
+
+    fn from(refused: Refused) -> Answer {
+        refused_at(refused.refusal.number(), refused.place)
+    }
+}
+
 // What writing an entry over a row gives.
-pub fn entry_written(old: u32, entry: Entry) -> Written
-    ensures { result ≡ spec.entry_written old entry }
+#[tactic(auto, unfolding(crate::specs::Verdicts::entry_written))]
+pub fn entry_written(old: u32, entry: Entry) -> Result<Burnt, Refusal>
+    ensures { written_by old result ≡ spec.entry_written old entry }
 {
     let value = entry.value;
     if entry.kind == 0 {
         return write_ecc(old, (value % 65536) as u16);
     }
-    write_raw(old, value)
+    Ok(write_raw(old, value))
 }
 
 // A row, and whether Secure may write it.
@@ -54,59 +86,47 @@ fn permit_for(row: u32, before: Permit, state: State) -> Permit
     Permit { row, may }
 }
 
-// The number of an entry whose row may be written, or may not. `row_number` of access judges 7, then 3, too: by one function for both a
-// job of 512 entries took a twelfth more instructions on the Cortex-M33, so the two tests stand here once more.
+// Whether an entry is refused, whose row may be written, or may not. `check_row` of access judges 7, then 3, too: by one function for both
+// a job of 512 entries took a twelfth more instructions on the Cortex-M33, so the two tests stand here once more.
 #[tactic(auto, using(crate::proofs::Fitting::entry_nine), unfolding(crate::specs::Verdicts::entry_rungs))]
-fn entry_number(rows: &[u32], may: bool, entry: Entry) -> u32
-    ensures { result ≡ first_of (spec.entry_rungs rows.now may 0 entry) }
+fn check_entry(rows: &[u32], may: bool, entry: Entry) -> Result<(), Refusal>
+    ensures { number_of result ≡ first_of (spec.entry_rungs rows.now may 0 entry) }
 {
     let old = row_at(rows, entry.row);
     if !may {
-        return 7;
+        return Err(Refusal::NotPermitted);
     }
     if MOST_HELD < old {
-        return 3;
+        return Err(Refusal::TooLarge);
     }
-    let written = entry_written(old, entry);
-    written.number
+    entry_written(old, entry)?;
+    Ok(())
 }
 
-// The entries in order: the first that is refused gives its number and its index.
-fn judged(rows: &[u32], state: State, job: &[u8], count: u32) -> Verdict
-    ensures { result ≡ spec.verdict (spec.all_rungs rows.now state 0 (entries_from job.now 0 count)) }
+// The entries in order: the first that is refused gives its refusal and its index.
+fn judged(rows: &[u32], state: State, job: &[u8], count: u32) -> Result<(), Refused>
+    ensures { spec.given result ≡ spec.verdict (spec.all_rungs rows.now state 0 (entries_from job.now 0 count)) }
 {
     let may = may_write(state, 0, 0);
     let mut permit = Permit { row: 0, may };
-    let mut i = 0;
-    while i < count {
+    for i in 0..count {
         let entry = entry_at(job, i);
-        let next = permit_for(entry.row, permit, state);
-        permit = next;
-        let number = entry_number(rows, next.may, entry);
-        if number != 0 {
-            return Verdict { number, place: i };
+        permit = permit_for(entry.row, permit, state);
+        if let Err(refusal) = check_entry(rows, permit.may, entry) {
+            return Err(Refused { refusal, place: i });
         }
-        i += 1;
     }
-    Verdict {
-        number: 0,
-        place: 0,
-    }
+    Ok(())
 }
 
 // A job judged whole.
-pub fn verdict_of(rows: &[u32], state: State, job: &[u8]) -> Verdict
-    ensures { result ≡ spec.verdict_of rows.now state job.now }
+#[tactic(auto, unfolding(crate::specs::Verdicts::verdict_of))]
+pub fn verdict_of(rows: &[u32], state: State, job: &[u8]) -> Result<(), Refused>
+    ensures { spec.given result ≡ spec.verdict_of rows.now state job.now }
 {
     if rows.len() != Page::CHIP_ROWS {
-        return Verdict {
-            number: 1,
-            place: 0,
-        };
+        return Err(Refusal::NotWhole.into());
     }
-    let number = fault_number(fault_of(job));
-    if number != 0 {
-        return Verdict { number, place: 0 };
-    }
+    fault_of(job)?;
     judged(rows, state, job, count_of(job))
 }

@@ -5,7 +5,7 @@ use Rattle.chip.specs.Slices.{not_whole}
 use Rattle.chip.specs.declared.state.State.{State}
 use Rattle.burn.specs.Burning.{Left}
 use Rattle.judge.specs.Verdicts.{job_rungs, verdict}
-use Rattle.judge.specs.declared.verdicts.Verdict.{Verdict}
+use Rattle.judge.specs.Verdicts.{Verdict}
 use Rattle.job.specs.Jobs.{ran_as}
 use Rattle.lead.specs.Notes.{no_room}
 use Rattle.lead.specs.declared.notes.Note.{Note}

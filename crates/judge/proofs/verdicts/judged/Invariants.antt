@@ -1,7 +1,7 @@
 -- `judge::verdicts::judged`: the entries that are left answer for the whole, and what is kept of the row before is so.
 -- Assumes nothing.
 use mathlib.Core.Path.{◌≡◌}
-use Prim.Native.Nat.{◌-◌, ◌≤◌}
+use Prim.Native.Nat.{◌-◌}
 use Rattle.permit.specs.Permission.{may_write}
 use Rattle.form.specs.Entries.{entries_from}
 use Rattle.judge.specs.Verdicts.{all_rungs, verdict}
@@ -9,9 +9,5 @@ use Rattle.judge.proofs.verdicts.judged.Given as goal
 
 abbrev pub invariant-loop-i : goal.invariant-loop-i
 invariant-loop-i l =
-    (l.i ≤ l.count)
-    × (l.permit.may ≡ may_write l.state 0 l.permit.row)
+    (l.permit.may ≡ may_write l.state 0 l.permit.row)
     × (verdict (all_rungs l.rows l.state 0 (entries_from l.job 0 l.count)) ≡ verdict (all_rungs l.rows l.state l.i (entries_from l.job l.i (l.count - l.i))))
-
-abbrev pub decreases-loop-i : goal.decreases-loop-i
-decreases-loop-i l = l.count - l.i
