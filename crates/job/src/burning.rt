@@ -8,11 +8,11 @@ use burn::burning::burn_row;
 use chip::slices::row_at;
 use chip::tallies::gain;
 use form::entries::entry_at;
-use judge::verdicts::entry_written;
+use judge::verdicts::entry_burnt;
 use row::upward::burnt_upward;
 
 // How far a rehearsal came: the pulses spent, and the leading entries whose bits all stand.
-#[derive(Clone, Copy)]
+#[derive(Clone, Copy, Debug, PartialEq, Eq)]
 pub struct Reached {
     pub pulses: u32,
     pub place: u32,
@@ -22,10 +22,8 @@ pub struct Reached {
 fn name_rest(tallies: &mut [u16], job: &[u8], first: u32, count: u32)
     ensures { tallies.new ≡ with_gains tallies.old (spec.cut_gained 0 (entries_from job.now first (count - first))) }
 {
-    let mut i = first;
-    while i < count {
+    for i in first..count {
         gain(tallies, entry_at(job, i).row, 0);
-        i += 1;
     }
 }
 
@@ -42,15 +40,14 @@ pub fn rehearsed(
         × (result.pulses ≡ reached.pulses) × (result.place ≡ reached.place) }
 {
     let mut unspent = limit;
-    let mut i = 0;
-    while i < count {
+    for i in 0..count {
         let entry = entry_at(job, i);
         let row = entry.row;
         let old = row_at(rows, row);
-        let written = entry_written(old, entry);
-        let pulses = written.pulses;
+        let burnt = entry_burnt(old, entry);
+        let pulses = burnt.pulses;
         if unspent < pulses {
-            let cut = burnt_upward(unspent, old, written.row);
+            let cut = burnt_upward(unspent, old, burnt.row);
             burn_row(rows, tallies, row, cut, unspent);
             name_rest(tallies, job, i + 1, count);
             return Reached {
@@ -58,9 +55,8 @@ pub fn rehearsed(
                 place: i,
             };
         }
-        burn_row(rows, tallies, row, written.row, pulses);
+        burn_row(rows, tallies, row, burnt.row, pulses);
         unspent -= pulses;
-        i += 1;
     }
     Reached {
         pulses: limit - unspent,

@@ -3,7 +3,7 @@ ghost use Rattle.std.specs.Prelude.{◌≡◌};
 ghost use Rattle.job.specs.Jobs as spec;
 
 use crate::burning::rehearsed;
-use answer::answers::{refused_at, spent};
+use answer::answers::spent;
 use burn::burning::beside;
 use chip::state::{Outcome, State};
 use form::entries::count_of;
@@ -18,10 +18,8 @@ pub fn rehearse(rows: &mut [u32], state: State, job: &[u8], limit: u32) -> Outco
     ensures { (result ≡ (spec.rehearse rows.old state job.now limit).outcome)
         × (rows.new ≡ (spec.rehearse rows.old state job.now limit).rows) }
 {
-    let verdict = verdict_of(rows, state, job);
-    let number = verdict.number;
-    if number != 0 {
-        let answer = refused_at(number, verdict.place);
+    if let Err(refused) = verdict_of(rows, state, job) {
+        let answer = refused.into();
         return Outcome { answer, state };
     }
     let mut tallies = state.tallies;

@@ -63,6 +63,17 @@ pub fn entry_written(old: u32, entry: Entry) -> Result<Burnt, Refusal>
     Ok(write_raw(old, value))
 }
 
+// The row that an entry leaves, and the pulses that it takes: where it is refused, the row as it was, and none.
+pub fn entry_burnt(old: u32, entry: Entry) -> Burnt
+    ensures { (result.row ≡ (spec.entry_written old entry).row) × (result.pulses ≡ (spec.entry_written old entry).pulses) }
+{
+    let left_alone = Burnt {
+        row: old,
+        pulses: 0,
+    };
+    entry_written(old, entry).unwrap_or(left_alone)
+}
+
 // A row, and whether Secure may write it.
 #[derive(Clone, Copy)]
 struct Permit {

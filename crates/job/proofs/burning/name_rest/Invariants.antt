@@ -11,6 +11,3 @@ abbrev pub invariant-loop-i : goal.invariant-loop-i
 invariant-loop-i l =
     (length l.tallies ≡ length l.initial.tallies)
     × (with_gains l.initial.tallies (cut_gained 0 (entries_from l.job l.first (l.count - l.first))) ≡ with_gains l.tallies (cut_gained 0 (entries_from l.job l.i (l.count - l.i))))
-
-abbrev pub decreases-loop-i : goal.decreases-loop-i
-decreases-loop-i l = l.count - l.i

@@ -9,8 +9,5 @@ use Rattle.job.proofs.burning.rehearsed.Given as goal
 
 abbrev pub invariant-loop-i : goal.invariant-loop-i
 invariant-loop-i l =
-    (l.i ≤ l.count) × (l.unspent ≤ l.limit) × (length l.rows ≡ length l.initial.rows) × (length l.tallies ≡ length l.initial.tallies)
+    (l.unspent ≤ l.limit) × (length l.rows ≡ length l.initial.rows) × (length l.tallies ≡ length l.initial.tallies)
     × Ahead l.initial.tallies (rehearsed l.initial.rows l.limit (entries_from l.job 0 l.count)) l.tallies (l.limit - l.unspent) l.i (rehearsed l.rows l.unspent (entries_from l.job l.i (l.count - l.i)))
-
-abbrev pub decreases-loop-i : goal.decreases-loop-i
-decreases-loop-i l = l.count - l.i
