@@ -10,6 +10,7 @@ use chip::tallies::gain;
 use form::entries::entry_at;
 use judge::verdicts::entry_burnt;
 use row::upward::burnt_upward;
+use row::writing::Burnt;
 
 // How far a rehearsal came: the pulses spent, and the leading entries whose bits all stand.
 #[derive(Clone, Copy, Debug, PartialEq, Eq)]
@@ -45,18 +46,20 @@ pub fn rehearsed(
         let row = entry.row;
         let old = row_at(rows, row);
         let burnt = entry_burnt(old, entry);
-        let pulses = burnt.pulses;
-        if unspent < pulses {
-            let cut = burnt_upward(unspent, old, burnt.row);
-            burn_row(rows, tallies, row, cut, unspent);
+        if unspent < burnt.pulses {
+            let cut = Burnt {
+                row: burnt_upward(unspent, old, burnt.row),
+                pulses: unspent,
+            };
+            burn_row(rows, tallies, row, cut);
             name_rest(tallies, job, i + 1, count);
             return Reached {
                 pulses: limit,
                 place: i,
             };
         }
-        burn_row(rows, tallies, row, burnt.row, pulses);
-        unspent -= pulses;
+        burn_row(rows, tallies, row, burnt);
+        unspent -= burnt.pulses;
     }
     Reached {
         pulses: limit - unspent,

@@ -19,34 +19,35 @@ use Rattle.form.proofs.Upward.{all_left}
 use Rattle.job.proofs.Ahead.{none_ahead, one_ahead, burn_next, burn_stops, burn_ends, cut_next}
 use Rattle.job.proofs.burning.rehearsed.Goals as goal
 
+-- what was learnt of the entry is what is written over its row
+over : (rows : List ℕ) (old : ℕ) (e entry : Entry) → old ≡ row_at rows e.row → e ≡ entry → entry_written old e ≡ written_over rows entry
+over rows old e entry held same = ap (λ (o : ℕ). entry_written o e) held ∙ ap (written_over rows) same
+
 pub loop-i-init : goal.loop-i-init
 loop-i-init c =
     let s = c.args in
     let whole : Progress = rehearsed s.rows.now s.limit (entries_from s.job.now 0 s.count) in (
-      search rules,
       search rules,
       refl,
       refl,
       rw (← all_left s.job.now s.count, sub_self s.limit) (none_ahead s.tallies.now whole),
     )
 
-pub returns-then-unspent-pulses : goal.returns-then-unspent-pulses
-returns-then-unspent-pulses c =
+pub returns-then-unspent-burnt : goal.returns-then-unspent-burnt
+returns-then-unspent-burnt c =
     let s = c.args in
     let job = s.job.now in
     let l = c.loop-i in
     let entry = c.entry_at-entry.ensures in
     let old = c.row_at-old.ensures in
-    let written : c.entry_written-written.result ≡ written_over l.rows (entry_at job l.i) =
-    c.entry_written-written.ensures ∙ ap (λ (old : ℕ). entry_written old c.entry_at-entry.result) old
-    ∙ ap (λ (e : Entry). written_over l.rows e) entry in
     let row = ap (λ (e : Entry). e.row) entry in
-    let short : l.unspent < (written_over l.rows (entry_at job l.i)).pulses =
-    subst (λ (w : Written). l.unspent < w.pulses) written c.if-unspent-pulses.true in
-    let stopped = rw (burn_stops job s.count l.rows l.unspent l.i (omega arith) short) at l.invariant.4 in
-    let cut : c.burnt_upward-cut.result ≡ burnt_upward l.unspent (row_at l.rows (entry_at job l.i).row) (written_over l.rows (entry_at job l.i)).row =
-    c.burnt_upward-cut.ensures
-    ∙ ap₂ (burnt_upward l.unspent) (old ∙ ap (row_at l.rows) row) (ap (λ (w : Written). w.row) written) in
+    let written = over l.rows _ _ _ old entry in
+    let left = c.entry_burnt-burnt.ensures.0 ∙ ap (λ (w : Written). w.row) written in
+    let pulses = c.entry_burnt-burnt.ensures.1 ∙ ap (λ (w : Written). w.pulses) written in
+    let short : l.unspent < (written_over l.rows (entry_at job l.i)).pulses = subst (λ (u : ℕ). l.unspent < u) pulses c.if-unspent-burnt.true in
+    let stopped = rw (burn_stops job s.count l.rows l.unspent l.i (omega arith) short) at l.invariant.3 in
+    let cut : c.burnt_upward.result ≡ burnt_upward l.unspent (row_at l.rows (entry_at job l.i).row) (written_over l.rows (entry_at job l.i)).row =
+    c.burnt_upward.ensures ∙ ap₂ (burnt_upward l.unspent) (old ∙ ap (row_at l.rows) row) left in
     let burnt = c.burn_row.ensures in
     let counted : c.burn_row.new.tallies ≡ with_gain l.tallies ((entry_at job l.i).row gains l.unspent) =
     burnt.1 ∙ ap (λ (at : ℕ). with_gain l.tallies (at gains l.unspent)) row in
@@ -65,23 +66,21 @@ loop-i-preserved c =
     let job = s.job.now in
     let l = c.loop-i in
     let entry = c.entry_at-entry.ensures in
-    let written : c.entry_written-written.result ≡ written_over l.rows (entry_at job l.i) =
-    c.entry_written-written.ensures ∙ ap (λ (old : ℕ). entry_written old c.entry_at-entry.result) c.row_at-old.ensures
-    ∙ ap (λ (e : Entry). written_over l.rows e) entry in
     let row = ap (λ (e : Entry). e.row) entry in
-    let u : ℕ = c.entry_written-written.result.pulses in
+    let written = over l.rows _ _ _ c.row_at-old.ensures entry in
+    let pulses = c.entry_burnt-burnt.ensures.1 ∙ ap (λ (w : Written). w.pulses) written in
+    let u : ℕ = c.entry_burnt-burnt.result.pulses in
     let left = c.burn_row-in-loop-i.new in
     let next : left.rows ≡ with_entry l.rows (entry_at job l.i) =
-    c.burn_row-in-loop-i.ensures.0 ∙ ap₂ (set l.rows) row (ap (λ (w : Written). w.row) written) in
+    c.burn_row-in-loop-i.ensures.0 ∙ ap₂ (set l.rows) row (c.entry_burnt-burnt.ensures.0 ∙ ap (λ (w : Written). w.row) written) in
     let counted : left.tallies ≡ with_gain l.tallies ((entry_at job l.i).row gains u) =
     c.burn_row-in-loop-i.ensures.1 ∙ ap (λ (at : ℕ). with_gain l.tallies (at gains u)) row in
-    let enough : u ≤ l.unspent = c.if-unspent-pulses.false in
+    let enough : u ≤ l.unspent = c.if-unspent-burnt.false in
     let spent : s.limit - l.unspent + u ≡ s.limit - (l.unspent - u) = omega arith in
-    let burnt = rw (burn_next job s.count l.rows l.unspent l.i (omega arith) left.rows u (ap (λ (w : Written). w.pulses) written) next enough) at l.invariant.4 in (
+    let burnt = rw (burn_next job s.count l.rows l.unspent l.i (omega arith) left.rows u pulses next enough) at l.invariant.3 in (
       omega arith,
-      omega arith,
-      ap length c.burn_row-in-loop-i.ensures.0 ∙ length-set l.rows _ _ ∙ l.invariant.2,
-      ap length c.burn_row-in-loop-i.ensures.1 ∙ length-set l.tallies _ _ ∙ l.invariant.3,
+      ap length c.burn_row-in-loop-i.ensures.0 ∙ length-set l.rows _ _ ∙ l.invariant.1,
+      ap length c.burn_row-in-loop-i.ensures.1 ∙ length-set l.tallies _ _ ∙ l.invariant.2,
       rw (counted, ← spent) (one_ahead s.tallies.now _ l.tallies (s.limit - l.unspent) l.i ((entry_at job l.i).row gains u) _ burnt),
     )
 
@@ -89,7 +88,7 @@ pub returns : goal.returns
 returns c =
     let s = c.args in
     let l = c.loop-i in
-    let ended = rw (burn_ends s.job.now s.count l.rows l.unspent l.i (omega arith)) at l.invariant.4 in
+    let ended = rw (burn_ends s.job.now s.count l.rows l.unspent l.i (omega arith)) at l.invariant.3 in
     let all : l.i + 0 ≡ s.count = omega arith in (
       sym ended.rows,
       sym ended.counted,
