@@ -4,6 +4,7 @@
 pub mod burnt;
 pub mod callers;
 pub mod condition;
+pub mod counts;
 pub mod ecc;
 pub mod job_refusals;
 pub mod levels;
