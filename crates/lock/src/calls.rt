@@ -1,56 +1,67 @@
 // The calls on the state alone: advance a lock, show a lock, enter a key (document 01, "Locks" and "Keys"; request 2026-05).
 ghost use Rattle.std.specs.Prelude.{◌≡◌, ◌≤◌, length};
+ghost use Rattle.answer.specs.Refusals.{number_of};
 ghost use Rattle.lock.specs.Calls as spec;
 
-use answer::answers::{Answer, done, refused, told};
+use answer::answers::{Answer, done, told};
+use answer::refusals::Refusal;
 use chip::callers::{BOOTLOADER, LAST_CALLER, LAST_DOMAIN, NONSECURE, SECURE, shown_level};
 use chip::pages::Page;
-use chip::state::{Outcome, State, refusal};
+use chip::state::{Outcome, State};
 
-// The number of an advance.
-fn advance_number(caller: u32, domain: u32, page: u32, level: u32) -> u32
-    ensures { result ≡ spec.advance_number caller domain page level }
+// Callers, domains, pages and levels are numbers here, since any number may come in, from C too, and each call says which it refuses.
+
+// Whether a show is refused. An advance is refused for the same first.
+fn check_show(caller: u32, domain: u32, page: u32) -> Result<(), Refusal>
+    ensures { number_of result ≡ spec.show_number caller domain page }
 {
     if LAST_CALLER < caller {
-        return 4;
+        return Err(Refusal::NoSuchNumber);
     }
     if LAST_DOMAIN < domain {
-        return 4;
+        return Err(Refusal::NoSuchNumber);
     }
     if Page::LAST < page {
-        return 4;
+        return Err(Refusal::NoSuchNumber);
     }
+    Ok(())
+}
+
+// Whether an advance is refused.
+#[tactic(auto, using(answer::proofs::Numbered::not_done))]
+fn check_advance(caller: u32, domain: u32, page: u32, level: u32) -> Result<(), Refusal>
+    ensures { number_of result ≡ spec.advance_number caller domain page level }
+{
+    check_show(caller, domain, page)?;
     if 2 < level {
-        return 4;
+        return Err(Refusal::NoSuchNumber);
     }
     if domain == BOOTLOADER {
-        return 7;
+        return Err(Refusal::NotPermitted);
     }
     if caller == BOOTLOADER {
-        return 7;
+        return Err(Refusal::NotPermitted);
     }
-    if caller == NONSECURE {
-        if domain == SECURE {
-            return 7;
-        }
+    if caller == NONSECURE && domain == SECURE {
+        return Err(Refusal::NotPermitted);
     }
-    0
+    Ok(())
 }
 
 // Leaves the higher of the present and the asked level.
-#[tactic(auto, using(crate::proofs::Ladders::advance_passed), unfolding(crate::specs::Calls::advance))]
+#[tactic(auto, using(answer::proofs::Numbered::not_done, crate::proofs::Ladders::advance_passed), unfolding(crate::specs::Calls::advance))]
 pub fn advance(state: State, caller: u32, domain: u32, page: u32, level: u32) -> Outcome
     ensures { result ≡ spec.advance state caller domain page level }
 {
-    let number = advance_number(caller, domain, page, level);
-    if number != 0 {
-        return refusal(number, state);
-    }
-    let answer = done();
-    let next = advanced(state, domain, page, level);
-    Outcome {
-        answer,
-        state: next,
+    match check_advance(caller, domain, page, level) {
+        Ok(()) => Outcome {
+            answer: done(),
+            state: advanced(state, domain, page, level),
+        },
+        Err(refusal) => Outcome {
+            answer: refusal.into(),
+            state,
+        },
     }
 }
 
@@ -72,48 +83,31 @@ fn advanced(state: State, domain: u32, page: u32, level: u32) -> State
     next
 }
 
-// The number of a show.
-fn show_number(caller: u32, domain: u32, page: u32) -> u32
-    ensures { result ≡ spec.show_number caller domain page }
-{
-    if LAST_CALLER < caller {
-        return 4;
-    }
-    if LAST_DOMAIN < domain {
-        return 4;
-    }
-    if Page::LAST < page {
-        return 4;
-    }
-    0
-}
-
 // The level of a page in a lock domain, to any caller.
-#[tactic(auto, using(crate::proofs::Ladders::show_passed), unfolding(crate::specs::Calls::show_lock))]
+#[tactic(auto, using(answer::proofs::Numbered::not_done, crate::proofs::Ladders::show_passed), unfolding(crate::specs::Calls::show_lock))]
 pub fn show(state: State, caller: u32, domain: u32, page: u32) -> Answer
     ensures { result ≡ spec.show_lock state caller domain page }
 {
-    let number = show_number(caller, domain, page);
-    if number != 0 {
-        return refused(number);
+    match check_show(caller, domain, page) {
+        Ok(()) => told(shown_level(state, domain, Page { number: page as u8 })),
+        Err(refusal) => refusal.into(),
     }
-    told(shown_level(state, domain, Page { number: page as u8 }))
 }
 
-// The number of entering a key.
-fn enter_number(caller: u32, key: &[u8]) -> u32
-    ensures { result ≡ spec.enter_number caller key.now }
+// Whether entering a key is refused.
+fn check_enter(caller: u32, key: &[u8]) -> Result<(), Refusal>
+    ensures { number_of result ≡ spec.enter_number caller key.now }
 {
     if LAST_CALLER < caller {
-        return 4;
+        return Err(Refusal::NoSuchNumber);
     }
     if key.len() != 16 {
-        return 4;
+        return Err(Refusal::NoSuchNumber);
     }
     if caller != SECURE {
-        return 7;
+        return Err(Refusal::NotPermitted);
     }
-    0
+    Ok(())
 }
 
 // The words of a key's 16 bytes, low byte first.
@@ -122,28 +116,28 @@ fn key_words(key: &[u8]) -> [u16; 8]
     ensures { result ≡ spec.key_words key.now }
 {
     let mut words = [0u16; 8];
-    let mut i: usize = 0;
-    while i < 8 {
+    for i in 0..8 {
         words[i] = key[2 * i] as u16 + 256 * (key[2 * i + 1] as u16);
-        i += 1;
     }
     words
 }
 
 // Enters a key, against which the registered ones are compared until a reset or another one is entered.
-#[tactic(auto, using(crate::proofs::Ladders::enter_passed), unfolding(crate::specs::Calls::enter_key))]
+#[tactic(auto, using(answer::proofs::Numbered::not_done, crate::proofs::Ladders::enter_passed), unfolding(crate::specs::Calls::enter_key))]
 pub fn enter_key(state: State, caller: u32, key: &[u8]) -> Outcome
     ensures { result ≡ spec.enter_key state caller key.now }
 {
-    let number = enter_number(caller, key);
-    if number != 0 {
-        return refusal(number, state);
-    }
-    let words = key_words(key);
-    let mut next = state;
-    next.entered = words;
-    Outcome {
-        answer: done(),
-        state: next,
+    match check_enter(caller, key) {
+        Ok(()) => Outcome {
+            answer: done(),
+            state: State {
+                entered: key_words(key),
+                ..state
+            },
+        },
+        Err(refusal) => Outcome {
+            answer: refusal.into(),
+            state,
+        },
     }
 }
