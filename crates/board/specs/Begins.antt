@@ -1,15 +1,30 @@
 -- What a command on an image begins with: the chip after a reset, and a key where one is given.
-use Rattle.std.specs.Prelude.{ℕ, List, eqb}
+use Rattle.std.specs.Prelude.{ℕ, List, Result, Ok, Err, eqb}
 use Rattle.std.specs.Prelude.{if◌then◌else◌}
+use Rattle.chip.specs.declared.state.State.{State}
 use Rattle.chip.specs.States.{zeros}
 use Rattle.lock.specs.Calls.{enter_key}
 use Rattle.latch.specs.Resetting.{reset}
-use Rattle.board.specs.declared.begin.Begun.{Begun}
-use Rattle.board.specs.declared.begin.Start.TheVariants.{Ready, Ended}
+use Rattle.console.specs.declared.ended.Stop.{Stop}
+
+-- whether there is a chip to go on with, or the command has ended
+pub data Start : Type 0 where
+  Ready : Start
+  Ended : Start
+
+-- the chip that a command has begun with, all zeros where it has ended
+pub record Begun : Type 0 where
+  pub start : Start
+  pub state : State
 
 -- the command has ended
 abbrev pub not_begun : Begun
 not_begun = record { start = Ended; state = zeros }
+
+-- what a command has begun with, by the answer of the function that begins it
+abbrev pub begun_by : Result State Stop → Begun
+begun_by (Ok chip) = record { start = Ready; state = chip }
+begun_by (Err _) = not_begun
 
 -- the chip after a reset, where the reset is not refused
 abbrev pub after_reset : List ℕ → Begun

@@ -1,108 +1,76 @@
 // What every command on an image begins and ends with: the image, a reset, the key where one is given; and whether that key opened anything.
-ghost use Rattle.std.specs.Prelude.{◌≡◌};
+ghost use Rattle.std.specs.Prelude.{◌≡◌, IfErr, IfOk};
+ghost use Rattle.chip.specs.States.{zeros};
+ghost use Rattle.latch.specs.Resetting.{reset as reset_of};
+ghost use Rattle.lock.specs.Calls.{enter_key as enter_by};
+ghost use Rattle.console.specs.Ends.{StopsWith};
 ghost use Rattle.board.specs.Begins as spec;
 
 use crate::reset_refusals;
 use chip::callers::SECURE;
 use chip::state::State;
+use console::ended::{End, Stop};
 use console::options::Words;
-use console::{ended, files, usage, word};
+use console::{files, usage, word};
 use latch::resetting::reset;
 use lock::calls::enter_key;
 use permit::keys::matches;
-use screen::print;
 
-// Whether there is a chip to go on with. Where there is none, the command has ended.
-#[derive(Clone, Copy)]
-pub enum Start {
-    Ready,
-    Ended,
-}
-
-// A state holds arrays, which no enum does here: so it stands beside the answer, all zeros where the command has ended.
-#[derive(Clone, Copy)]
-pub struct Begun {
-    pub start: Start,
-    pub state: State,
-}
-
-fn not_begun() -> Begun
-    ensures { result ≡ spec.not_begun }
-{
-    let state = State::zeros();
-    Begun {
-        start: Start::Ended,
-        state,
-    }
-}
-
-// The image after a reset.
-pub fn after_reset(rows: &[u32]) -> Begun
-    ensures { result ≡ spec.after_reset rows.now }
+// The image after a reset. Where that is refused, the lines of the refusal have said so.
+pub fn after_reset(rt: &HostRuntime, rows: &[u32]) -> Result<State, Stop>
+    ensures begun { spec.begun_by result ≡ spec.after_reset rows.now }
+    ensures stop { IfErr result (StopsWith (End.Answered (reset_of rows.now zeros).answer.number)) }
 {
     let outcome = reset(rows, State::zeros());
-    let answer = outcome.answer;
-    let number = answer.number;
+    let number = outcome.answer.number;
     if number != 0 {
-        reset_refusals::lines(number, rows);
-        ended::answered(number);
-        return not_begun();
+        reset_refusals::lines(rt, number, rows)?;
+        return Err(Stop::Ended(End::Answered(number)));
     }
-    let state = outcome.state;
-    Begun {
-        start: Start::Ready,
-        state,
+    Ok(outcome.state)
+}
+
+// The key at a place.
+fn key_at(rt: &HostRuntime, place: usize) -> Result<[u8; 16], Stop>
+    ensures { IfErr result (StopsWith End.Usage) }
+{
+    match word::key(rt, place) {
+        Some(key) => Ok(key),
+        None => usage::wrong(rt, place, "not a key, which is 32 hexadecimal digits"),
     }
 }
 
-// The key is entered by Secure, the only caller that may.
-fn with_key(rows: &[u32], key: &[u8; 16]) -> Begun
-    ensures { result ≡ spec.with_key rows.now key.now }
+// The chip with a key, which is entered by Secure, the only caller that may.
+fn keyed(state: State, key: &[u8; 16]) -> State
+    ensures { result ≡ (enter_by state 0 key.now).state }
 {
-    let begun = after_reset(rows);
-    let start = begun.start;
-    let state = begun.state;
-    let outcome = enter_key(state, SECURE, key);
-    let next = outcome.state;
-    Begun { start, state: next }
+    enter_key(state, SECURE, key).state
 }
 
 // Loads the image that the first word names into `rows`, resets it and enters the key.
-pub fn begin(rt: &HostRuntime, words: Words, rows: &mut [u32; 4096]) -> Begun
-    ensures { spec.Begins rows.new result }
+pub fn begin(rt: &HostRuntime, words: Words, rows: &mut [u32; 4096]) -> Result<State, Stop>
+    ensures { IfOk result (λ chip. spec.Begins rows.new (spec.begun_by (Ok chip))) }
 {
-    let mut key = [0u8; 16];
-    if words.key != 0 {
-        if !word::key(rt, words.key, &mut key) {
-            usage::wrong(rt, words.key, b"not a key, which is 32 hexadecimal digits");
-            return not_begun();
-        }
+    let key = match words.key {
+        Some(place) => Some(key_at(rt, place)?),
+        None => None,
+    };
+    let image = usage::needed(rt, words.first)?;
+    files::load_image(rt, image, rows)?;
+    let state = after_reset(rt, rows)?;
+    match key {
+        Some(key) => Ok(keyed(state, &key)),
+        None => Ok(state),
     }
-    if !files::load_image(rt, words.first, rows) {
-        return not_begun();
-    }
-    if words.key == 0 {
-        return after_reset(rows);
-    }
-    with_key(rows, &key)
-}
-
-fn any_matches(state: State) -> bool {
-    matches(state, 1)
-        || matches(state, 2)
-        || matches(state, 3)
-        || matches(state, 4)
-        || matches(state, 5)
-        || matches(state, 6)
 }
 
 // The last lines of a command on an image. Where a key was given and matches none, one says so: without it a slip in a digit would look
 // like a lock.
-pub fn finish(words: Words, state: State, number: u32) {
-    if words.key != 0 {
-        if !any_matches(state) {
-            print::line(b"The key entered matches no valid key.");
-        }
+pub fn finish(rt: &HostRuntime, words: Words, state: State, number: u32) -> Result<End, Stop>
+    ensures { IfOk result (λ end. end ≡ End.Answered number) }
+{
+    if words.key.is_some() && !(1..7).any(|index| matches(state, index)) {
+        println!(rt; "The key entered matches no valid key.")?;
     }
-    ended::answered(number);
+    Ok(End::Answered(number))
 }

@@ -5,7 +5,7 @@ ghost use Rattle.latch.specs.Locks.{level_of, secure_field, nonsecure_field, boo
 
 use chip::pages::Page;
 use latch::locks::{level_of, voted_byte};
-use screen::print;
+use std::fmt;
 
 // What a reset latches of a low lock row.
 #[derive(Clone, Copy)]
@@ -49,34 +49,37 @@ fn high_of(row: u32) -> High
     }
 }
 
-// "write key 1", or "no write key"
-fn key(words: &[u8], index: u32) {
-    if index == 0 {
-        print::text(b"no ");
-        print::text(words);
-        return;
+// A field that names a key: "write key 1", or "no write key".
+#[derive(Clone, Copy)]
+struct Key(&'static str, u32);
+
+impl fmt::Display for Key {
+    fn fmt<W: fmt::Write>(&self, f: &mut fmt::Formatter<W>) -> fmt::Result {
+        match *self {
+            Key(words, 0) => write!(f, "no {words}"),
+            Key(words, index) => write!(f, "{words} {index}"),
+        }
     }
-    print::text(words);
-    print::number_after(b" ", index);
 }
 
 // "write key 1, no read key, no-key state 0"
-fn low_words(low: Low) {
-    key(b"write key", low.writekey);
-    print::text(b", ");
-    key(b"read key", low.readkey);
-    if low.nokey {
-        print::text(b", no-key state 1");
-    } else {
-        print::text(b", no-key state 0");
+impl fmt::Display for Low {
+    fn fmt<W: fmt::Write>(&self, f: &mut fmt::Formatter<W>) -> fmt::Result {
+        let write = Key("write key", self.writekey);
+        let read = Key("read key", self.readkey);
+        write!(f, "{write}, {read}, no-key state {}", u8::from(self.nokey))
     }
 }
 
 // "Secure level 0, Non-secure level 1, bootloader level 0"
-fn high_words(high: High) {
-    print::number_after(b"Secure level ", high.secure as u32);
-    print::number_after(b", Non-secure level ", high.nonsecure as u32);
-    print::number_after(b", bootloader level ", high.bootloader as u32);
+impl fmt::Display for High {
+    fn fmt<W: fmt::Write>(&self, f: &mut fmt::Formatter<W>) -> fmt::Result {
+        write!(
+            f,
+            "Secure level {}, Non-secure level {}, bootloader level {}",
+            self.secure, self.nonsecure, self.bootloader
+        )
+    }
 }
 
 // Whether the three copies are one byte.
@@ -84,16 +87,23 @@ fn alike(bits: u32) -> bool {
     bits == bits % 256 * 0x010101
 }
 
-// What a reset latches of a lock row that holds these bits. Where the copies differ, some copy has a bit that the vote leaves out, or lacks one
-// that it takes: a lock of one copy is none.
-pub fn words(row: u32, bits: u32) {
-    if row % 2 == 0 {
-        low_words(low_of(bits));
-    } else {
-        high_words(high_of(bits));
-    }
-    if !alike(bits) {
-        print::text(b", copies differ");
+// What a reset latches of a lock row that holds these bits: the row, and the bits. Where the copies differ, some copy has a bit that the vote
+// leaves out, or lacks one that it takes: a lock of one copy is none.
+#[derive(Clone, Copy)]
+pub struct Words(pub u32, pub u32);
+
+impl fmt::Display for Words {
+    fn fmt<W: fmt::Write>(&self, f: &mut fmt::Formatter<W>) -> fmt::Result {
+        let Words(row, bits) = *self;
+        if row % 2 == 0 {
+            write!(f, "{}", low_of(bits))?;
+        } else {
+            write!(f, "{}", high_of(bits))?;
+        }
+        if alike(bits) {
+            return Ok(());
+        }
+        write!(f, ", copies differ")
     }
 }
 
@@ -101,6 +111,5 @@ pub fn words(row: u32, bits: u32) {
 pub fn page_of(row: u32) -> u32
     ensures { result ≡ owner row }
 {
-    let owner = Page::owner(row);
-    owner.number as u32
+    u32::from(Page::owner(row).number)
 }

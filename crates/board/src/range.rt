@@ -1,25 +1,19 @@
 // The rows that a command goes over: those between two that its words name, or those that hold bits.
-ghost use Rattle.std.specs.Prelude.{◌≡◌};
+ghost use Rattle.std.specs.Prelude.{◌≡◌, ◌≤◌, IfErr, MatchResult};
+ghost use Rattle.console.specs.Ends.{StopsWith};
 ghost use Rattle.board.specs.Ranges as spec;
 
 use chip::pages::Page;
+use console::ended::{End, Stop};
 use console::options::Words;
-use console::{usage, word};
-use typed::numbers::Number;
+use console::usage;
 
 // The rows from `first` on, as far as the one before `past`; where `held`, only those of them that hold bits.
-#[derive(Clone, Copy)]
+#[derive(Clone, Copy, Debug, PartialEq, Eq)]
 pub struct Range {
     pub first: u32,
     pub past: u32,
     pub held: bool,
-}
-
-// The rows that the words ask for, or that a word names none: one line has said so, and the command has ended.
-#[derive(Clone, Copy)]
-pub enum Rows {
-    Range(Range),
-    Ended,
 }
 
 // The rows before one that hold bits.
@@ -33,75 +27,53 @@ pub fn held_before(past: u32) -> Range
     }
 }
 
-fn no_such_row(rt: &HostRuntime, place: usize) {
-    usage::wrong(rt, place, b"no such row; the rows are 0 to 4095, 0xfff");
-}
-
 // All rows from one to another.
-fn between(rt: &HostRuntime, words: Words, first: u32, last: u32) -> Rows
-    ensures { spec.Named result }
+fn between(first: u32, last: u32) -> Range
+    requires { last ≤ 4095 }
+    ensures { result ≡ spec.between first last }
 {
-    if Page::LAST_ROW < last {
-        no_such_row(rt, words.third);
-        return Rows::Ended;
-    }
-    if last < first {
-        usage::wrong(rt, words.third, b"it comes before the first row asked for");
-        return Rows::Ended;
-    }
-    let past = last + 1;
-    let range = Range {
+    Range {
         first,
-        past,
+        past: last + 1,
         held: false,
-    };
-    Rows::Range(range)
+    }
 }
 
-// From a row to the one that the third word names, or that row alone.
-fn from(rt: &HostRuntime, words: Words, first: u32) -> Rows
-    ensures { spec.Named result }
+// The row that the word at a place names.
+fn row_at(rt: &HostRuntime, place: usize) -> Result<u32, Stop>
+    ensures { MatchResult result (λ row. row ≤ 4095) (StopsWith End.Usage) }
 {
-    if Page::LAST_ROW < first {
-        no_such_row(rt, words.second);
-        return Rows::Ended;
+    let row = usage::number(rt, place)?;
+    if Page::LAST_ROW < row {
+        return usage::wrong(rt, place, "no such row; the rows are 0 to 4095, 0xfff");
     }
-    if words.third == 0 {
-        return between(rt, words, first, first);
-    }
-    match word::number(rt, words.third) {
-        Number::Is(last) => between(rt, words, first, last),
-        Number::Not => {
-            usage::not_a_number(rt, words.third);
-            Rows::Ended
-        }
-    }
+    Ok(row)
 }
 
 // From the row that the second word names to the one that the third names, or the one row alone.
-pub fn named(rt: &HostRuntime, words: Words) -> Rows
-    ensures { spec.Named result }
+pub fn named(rt: &HostRuntime, words: Words) -> Result<Range, Stop>
+    ensures named { spec.Named result }
+    ensures stop { IfErr result (StopsWith End.Usage) }
 {
-    match word::number(rt, words.second) {
-        Number::Is(first) => from(rt, words, first),
-        Number::Not => {
-            usage::not_a_number(rt, words.second);
-            Rows::Ended
-        }
+    let first = row_at(rt, usage::needed(rt, words.second)?)?;
+    let Some(place) = words.third else {
+        return Ok(between(first, first));
+    };
+    let last = row_at(rt, place)?;
+    if last < first {
+        return usage::wrong(rt, place, "it comes before the first row asked for");
     }
+    Ok(between(first, last))
 }
 
 // The same, where one row alone is not asked for: both words or none.
-pub fn from_first_to_last(rt: &HostRuntime, words: Words) -> Rows
-    ensures { spec.Named result }
+pub fn from_first_to_last(rt: &HostRuntime, words: Words) -> Result<Range, Stop>
+    ensures named { spec.Named result }
+    ensures stop { IfErr result (StopsWith End.Usage) }
 {
-    if words.third == 0 {
-        usage::wrong(
-            rt,
-            words.second,
-            b"FIRST and LAST go together, and LAST is missing",
-        );
-        return Rows::Ended;
+    if words.third.is_none() {
+        let place = usage::needed(rt, words.second)?;
+        return usage::wrong(rt, place, "FIRST and LAST go together, and LAST is missing");
     }
     named(rt, words)
 }
