@@ -26,10 +26,9 @@ use Rattle.form.proofs.Putting.{length_stays, after_stays}
 use Rattle.form.proofs.WholeJob.{entries_length, after_entries}
 use Rattle.splash.specs.Cards.{is_mark, known_version, card_of, in_range}
 use Rattle.splash.specs.Flat.{read_number, zero_card, shown_card}
-use Rattle.splash.specs.Reading.{card_said, card_rungs, read_as, read_card}
+use Rattle.splash.specs.Reading.{a_card, no_card, card_said, card_rungs, read_as, read_card}
 use Rattle.splash.specs.Writing.{Written, ecc_entry, card_bytes, card_entries, write_number, write_card}
 use Rattle.splash.specs.declared.cards.Card.{Card}
-use Rattle.splash.specs.declared.reading.CardRead.TheVariants.{Card as a_card, None as no_card}
 use Rattle.splash.proofs.Leaving.{write_refused, write_done}
 use Rattle.splash.proofs.PageThree.{OfCard, line_in}
 use Rattle.laws.specs.Calls.{an_ecc_read, perform}

@@ -26,10 +26,9 @@ use Rattle.judge.specs.Verdicts.{entry_written}
 use Rattle.job.specs.Burning.{written_over, with_entry, all_written}
 use Rattle.job.specs.Jobs.{run_job}
 use Rattle.splash.specs.Cards.{card_of, in_range}
-use Rattle.splash.specs.Reading.{line_row, line_read, card_said, read_as, read_card}
+use Rattle.splash.specs.Reading.{a_card, line_row, line_read, card_said, read_as, read_card}
 use Rattle.splash.specs.Writing.{ecc_entry, card_entries}
 use Rattle.splash.specs.declared.cards.Card.{Card}
-use Rattle.splash.specs.declared.reading.CardRead.TheVariants.{Card as a_card}
 use Rattle.splash.proofs.PageThree.{OfCard}
 use Rattle.laws.specs.Calls.{a_job, perform}
 use Rattle.laws.specs.Promises.{Burns}

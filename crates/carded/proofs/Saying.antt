@@ -11,10 +11,8 @@ use Rattle.answer.specs.declared.answers.Answer.{Answer}
 use Rattle.answer.proofs.Ladders.{passed}
 use Rattle.splash.specs.Cards.{is_mark, known_version, in_range}
 use Rattle.splash.specs.Flat.{read_number, shown_card}
-use Rattle.splash.specs.Reading.{line_read, card_said, card_rungs, card_answered}
+use Rattle.splash.specs.Reading.{CardRead, a_card, no_card, line_read, card_said, card_rungs, card_answered}
 use Rattle.splash.specs.declared.cards.Card.{Card}
-use Rattle.splash.specs.declared.reading.CardRead.{CardRead}
-use Rattle.splash.specs.declared.reading.CardRead.TheVariants.{Card as a_card, None as no_card}
 
 -- what is answered where each row reads so
 abbrev pub answered_by : (ℕ → Answer) → CardRead

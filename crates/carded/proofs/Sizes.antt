@@ -1,6 +1,6 @@
 -- Sizes are in range, and the row of all ones.
 -- Assumes nothing.
-use mathlib.Core.Bool.{true, false, and-eq-true_iff}
+use mathlib.Core.Bool.{true, and-eq-true_iff}
 use mathlib.Core.List.{List}
 use mathlib.Core.Path.{◌≡◌, refl, sym, ap, subst, ◌∙◌}
 use Prim.Native.Nat.{ℕ, ◌≤◌}
@@ -23,9 +23,9 @@ use Rattle.chip.specs.declared.state.State.{State}
 use Rattle.access.specs.Reads.{read_ecc_number, read_ecc}
 use Rattle.splash.specs.Cards.{in_range}
 use Rattle.splash.specs.Flat.{flat_card}
-use Rattle.splash.specs.Reading.{line_read, card_said, card_rungs, read_as, read_card}
+use Rattle.splash.specs.Reading.{card_said, card_rungs, read_as, read_card}
 use Rattle.splash.specs.declared.cards.Card.{Card}
-use Rattle.splash.proofs.Answering.{head, size_answers}
+use Rattle.splash.proofs.Answering.{ReadsAs, size_refuses}
 use Rattle.splash.proofs.PageThree.{OfCard}
 use Rattle.laws.specs.Reads.{Value}
 use Rattle.laws.proofs.Reading.{undamaged}
@@ -89,29 +89,23 @@ plain_small rows row value h e = omega (arith, e, code_lt value h)
 
 pub all_ones_is17 : AllOnesIs17
 unfolding read_card
-all_ones_is17 rows state height whole may h first second third fourth fifth = sym (size_answers (read_as rows state) none line out)
+all_ones_is17 rows state height whole may h first second third fourth fifth =
+    sym
+    (size_refuses (read_as rows state) 0x5053 (plain_reads 0x0c0 0x5053 (omega arith, omega arith) (omega arith) first)
+    0x004c (plain_reads 0x0c1 0x004c (omega arith, omega arith) (omega arith) second)
+    1 (plain_reads 0x0c2 1 (omega arith, omega arith) (omega arith) third)
+    0 width height (plain_reads 0x0c4 height (omega arith, omega arith) h fifth) refl refl 0 width refl)
   where
-    plain_read : (row value : ℕ) → OfCard row → Value value → row_at rows row ≡ plain value → read_as rows state row ≡ found value Clean
-    plain_read row value of v e = read_there rows state whole may row of (found value Clean) (plain_small rows row value v e) (ap read_row e ∙ (undamaged value v).0) refl
+    -- what a row reads as, where that is no refusal
+    done : (row : ℕ) (answer : Answer) → read_as rows state row ≡ answer → answer.number ≡ 0 → ReadsAs (read_as rows state) row answer.value
+    done row answer e none = record { number = ap (λ (a : Answer). a.number) e ∙ none; value_is = ap (λ (a : Answer). a.value) e }
 
-    version : read_as rows state 0x0c2 ≡ found 1 Clean
-    version = plain_read 0x0c2 1 (omega arith, omega arith) (omega arith) third
+    plain_reads : (row value : ℕ) → OfCard row → Value value → row_at rows row ≡ plain value → ReadsAs (read_as rows state) row value
+    plain_reads row value of v e =
+        done row (found value Clean)
+        (read_there rows state whole may row of (found value Clean) (plain_small rows row value v e) (ap read_row e ∙ (undamaged value v).0) refl) refl
 
-    width : read_as rows state 0x0c3 ≡ found_in Inverted 0 Clean
-    width = read_there rows state whole may 0x0c3 (omega arith, omega arith) (found_in Inverted 0 Clean) (omega (arith, fourth)) (ap read_row fourth ∙ all_ones_is_zero) refl
-
-    none : head (read_as rows state) ≡ 0
-    none =
-        rw (
-          plain_read 0x0c0 0x5053 (omega arith, omega arith) (omega arith) first,
-          plain_read 0x0c1 0x004c (omega arith, omega arith) (omega arith) second,
-          version,
-          width,
-          plain_read 0x0c4 height (omega arith, omega arith) h fifth,
-        )
-
-    line : (line_read (read_as rows state)).number ≡ 0
-    line = rw (version, width)
-
-    out : in_range (card_said (read_as rows state)) ≡ false
-    out = rw width
+    width : ReadsAs (read_as rows state) 0x0c3 0
+    width =
+        done 0x0c3 (found_in Inverted 0 Clean)
+        (read_there rows state whole may 0x0c3 (omega arith, omega arith) (found_in Inverted 0 Clean) (omega (arith, fourth)) (ap read_row fourth ∙ all_ones_is_zero) refl) refl

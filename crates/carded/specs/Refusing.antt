@@ -9,9 +9,8 @@ use Rattle.permit.specs.Permission.{may_read}
 use Rattle.form.specs.Entries.{byte_at}
 use Rattle.splash.specs.Cards.{card_of}
 use Rattle.splash.specs.Flat.{read_number, zero_card, shown_card}
-use Rattle.splash.specs.Reading.{card_rungs, read_as, read_card}
+use Rattle.splash.specs.Reading.{CardRead, card_rungs, read_as, read_card}
 use Rattle.splash.specs.Writing.{Written, card_bytes, write_number, write_card}
-use Rattle.splash.specs.declared.reading.CardRead.{CardRead}
 
 -- a read's number is the first of its rungs that holds
 abbrev pub CardGives : Type 0

@@ -5,10 +5,9 @@ use Rattle.permit.specs.Permission.{may_read}
 use Rattle.form.specs.Entries.{version_of, entries_of}
 use Rattle.job.specs.Jobs.{run_job}
 use Rattle.splash.specs.Cards.{card_of}
-use Rattle.splash.specs.Reading.{read_card}
+use Rattle.splash.specs.Reading.{a_card, read_card}
 use Rattle.splash.specs.Writing.{card_entries, write_card}
 use Rattle.splash.specs.declared.cards.Card.{Card}
-use Rattle.splash.specs.declared.reading.CardRead.TheVariants.{Card as a_card}
 use Rattle.cuts.specs.Cuts.{Keyed, ready, Bytes, accepted_on, Cuts, Completes}
 
 -- a writing that is done, into an area of bytes; its card, and its job: as many bytes of the area as the value says

@@ -9,9 +9,8 @@ use Rattle.chip.specs.Slices.{row_at}
 use Rattle.chip.specs.declared.state.State.{State}
 use Rattle.permit.specs.Permission.{may_read}
 use Rattle.splash.specs.Flat.{flat_card}
-use Rattle.splash.specs.Reading.{read_card}
+use Rattle.splash.specs.Reading.{a_card, no_card, read_card}
 use Rattle.splash.specs.declared.cards.Card.{Card}
-use Rattle.splash.specs.declared.reading.CardRead.TheVariants.{Card as a_card, None as no_card}
 use Rattle.laws.specs.Reads.{Value}
 
 -- a width, a height and bytes in a line: none of them is below 1, so none is minus one, and line x height is at most 245,760

@@ -2,8 +2,7 @@
 use Rattle.std.specs.Prelude.{ℕ}
 use Rattle.splash.specs.declared.cards.Card.{Card}
 use Rattle.splash.specs.declared.flat.FlatCard.{FlatCard}
-use Rattle.splash.specs.declared.reading.CardRead.{CardRead}
-use Rattle.splash.specs.declared.reading.CardRead.TheVariants.{Card as a_card, None as no_card}
+use Rattle.splash.specs.Reading.{CardRead, a_card, no_card}
 
 -- a card is 0, and none has its number
 abbrev pub read_number : CardRead → ℕ

@@ -1,14 +1,22 @@
 -- Reading a card (request 2026-12): its number, first test first, and the card.
-use Rattle.std.specs.Prelude.{ℕ, not, List, [], ◌∷◌, eqb}
+use Rattle.std.specs.Prelude.{ℕ, not, Bool, List, [], ◌∷◌, eqb, Result, Ok, Err}
 use Rattle.std.specs.Prelude.{if◌then◌else◌}
+use Rattle.answer.specs.Answers.{answered}
+use Rattle.answer.specs.Refusals.{refusal_number}
 use Rattle.answer.specs.Rungs.{Rung, ◌when◌, first_of}
 use Rattle.answer.specs.declared.answers.Answer.{Answer}
+use Rattle.answer.specs.declared.refusals.Refusal.{Refusal}
+use Rattle.chip.specs.Slices.{row_at, not_whole, too_large}
 use Rattle.chip.specs.declared.state.State.{State}
+use Rattle.decode.specs.Reading.{read_row, undecodable}
 use Rattle.access.specs.Reads.{read_ecc}
 use Rattle.splash.specs.Cards.{is_mark, known_version, in_range}
 use Rattle.splash.specs.declared.cards.Card.{Card}
-use Rattle.splash.specs.declared.reading.CardRead.{CardRead}
-use Rattle.splash.specs.declared.reading.CardRead.TheVariants.{Card as a_card, None as no_card}
+
+-- what a card read answers: a card, or none with its number
+pub data CardRead : Type 0 where
+  a_card : Card → CardRead
+  no_card : ℕ → CardRead
 
 -- the row of the bytes in a line: that of version 2 is the sixth; version 1 answers its width
 abbrev pub line_row : ℕ → ℕ
@@ -49,3 +57,20 @@ read_as rows state row = read_ecc rows state 1 row
 -- read a card, as Non-secure
 unfoldable pub read_card : List ℕ → State → CardRead
 read_card rows state = card_answered (first_of (card_rungs (read_as rows state))) (card_said (read_as rows state))
+
+-- a card read as the code answers it, as such a one
+abbrev pub card_read : Result Card Refusal → CardRead
+card_read (Ok card) = a_card card
+card_read (Err refusal) = no_card (refusal_number refusal)
+
+-- a row read by one who may read page 3, or may not
+abbrev pub read_where : List ℕ → Bool → ℕ → Answer
+read_where rows may row =
+    answered
+    (first_of
+    (1 when not_whole rows
+    ∷ 7 when not may
+    ∷ 3 when too_large rows row
+    ∷ 8 when undecodable (row_at rows row)
+    ∷ []))
+    (read_row (row_at rows row))

@@ -5,7 +5,7 @@ ghost use Rattle.splash.specs.Flat.{flat_card};
 ghost use Rattle.splash.specs.Reading as reading;
 ghost use Rattle.splash.specs.Writing as writing;
 
-use crate::flat::{FlatCard, flat_card};
+use crate::flat::FlatCard;
 use crate::reading::read_card;
 use crate::writing::write_card;
 use chip::state::State;
@@ -15,7 +15,7 @@ use otp::flat::{FlatAnswer, flat_answer};
 pub fn otp_read_card(rows: &[u32], state: State) -> FlatCard
     ensures { result ≡ flat_card (reading.read_card rows.now state) }
 {
-    flat_card(read_card(rows, state))
+    read_card(rows, state).into()
 }
 
 // Writes a card.

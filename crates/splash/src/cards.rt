@@ -3,7 +3,7 @@ ghost use Rattle.std.specs.Prelude.{◌≡◌};
 ghost use Rattle.splash.specs.Cards as spec;
 
 // What a card says: its version, the width and the height of the logo, and the bytes in a line.
-#[derive(Clone, Copy)]
+#[derive(Clone, Copy, Debug, PartialEq, Eq)]
 pub struct Card {
     pub version: u32,
     pub width: u32,
@@ -36,25 +36,27 @@ impl Card {
     pub const HIGHEST: u32 = 240;
 
     pub const LONGEST_LINE: u32 = 1024;
-}
 
-// The card of four numbers. Version 2 has a line of its own, and that of version 1 is its width.
-pub fn card_of(version: u32, width: u32, height: u32, line: u32) -> Card
-    ensures { result ≡ spec.card_of version width height line }
-{
-    if version == 2 {
-        return Card {
+    // The card of four numbers. Version 2 has a line of its own, and that of version 1 is its width.
+    pub fn of(version: u32, width: u32, height: u32, line: u32) -> Card
+        ensures { result ≡ spec.card_of version width height line }
+    {
+        let line = if version == 2 { line } else { width };
+        Card {
             version,
             width,
             height,
             line,
-        };
+        }
     }
-    Card {
-        version,
-        width,
-        height,
-        line: width,
+
+    // Whether each size is in its range.
+    pub fn in_range(self) -> bool
+        ensures { result ≡ spec.in_range self }
+    {
+        (1..=Card::WIDEST).contains(&self.width)
+            && (1..=Card::HIGHEST).contains(&self.height)
+            && (self.width..=Card::LONGEST_LINE).contains(&self.line)
     }
 }
 
@@ -69,27 +71,5 @@ pub fn is_mark(first: u32, second: u32) -> bool
 pub fn known_version(version: u32) -> bool
     ensures { result ≡ spec.known_version version }
 {
-    version == 1 || version == 2
-}
-
-// Whether each size of a card is in its range.
-pub fn in_range(card: Card) -> bool
-    ensures { result ≡ spec.in_range card }
-{
-    if card.width < 1 {
-        return false;
-    }
-    if Card::WIDEST < card.width {
-        return false;
-    }
-    if card.height < 1 {
-        return false;
-    }
-    if Card::HIGHEST < card.height {
-        return false;
-    }
-    if card.line < card.width {
-        return false;
-    }
-    card.line <= Card::LONGEST_LINE
+    matches!(version, 1 | 2)
 }

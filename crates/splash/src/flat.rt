@@ -1,13 +1,14 @@
 // A card read as C takes it. An enum cannot cross to C: so a number stands beside the card, and a refusal has all four of the card's numbers 0.
 ghost use Rattle.std.specs.Prelude.{◌≡◌};
 ghost use Rattle.splash.specs.Flat as spec;
+ghost use Rattle.splash.specs.Reading.{card_read};
 
 use crate::cards::Card;
-use crate::reading::CardRead;
+use answer::refusals::Refusal;
 
 // `otp_card` of the header.
 #[repr(C)]
-#[derive(Clone, Copy)]
+#[derive(Clone, Copy, Debug, PartialEq, Eq)]
 pub struct FlatCard {
     // 0 is done, any other is a refusal
     pub number: u32,
@@ -21,48 +22,26 @@ pub struct FlatCard {
     pub line: u32,
 }
 
-// The number of a card read: 0 where there is a card.
-pub fn read_number(read: CardRead) -> u32
-    ensures { result ≡ spec.read_number read }
-{
-    match read {
-        CardRead::Card(_) => 0,
-        CardRead::None(number) => number,
-    }
-}
+#[tactic(auto, unfolding(crate::specs::Flat::flat_card))]
+impl From<Result<Card, Refusal>> for FlatCard {
+    ghost from_gives = { λ read flat. flat ≡ spec.flat_card (card_read read) };
 
-// A card of zeros, where there is none.
-fn no_card() -> Card
-    ensures { result ≡ spec.zero_card }
-{
-    Card {
-        version: 0,
-        width: 0,
-        height: 0,
-        line: 0,
-    }
-}
-
-// The card that was read, and zeros where there is none.
-pub fn shown_card(read: CardRead) -> Card
-    ensures { result ≡ spec.shown_card read }
-{
-    match read {
-        CardRead::Card(card) => card,
-        CardRead::None(_) => no_card(),
-    }
-}
-
-// A card read as C takes it.
-pub fn flat_card(read: CardRead) -> FlatCard
-    ensures { result ≡ spec.flat_card read }
-{
-    let card = shown_card(read);
-    FlatCard {
-        number: read_number(read),
-        version: card.version,
-        width: card.width,
-        height: card.height,
-        line: card.line,
+    fn from(read: Result<Card, Refusal>) -> FlatCard {
+        match read {
+            Ok(card) => FlatCard {
+                number: 0,
+                version: card.version,
+                width: card.width,
+                height: card.height,
+                line: card.line,
+            },
+            Err(refusal) => FlatCard {
+                number: refusal.number(),
+                version: 0,
+                width: 0,
+                height: 0,
+                line: 0,
+            },
+        }
     }
 }

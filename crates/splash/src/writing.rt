@@ -1,14 +1,17 @@
 // Writing a card: the job that burns it (request 2026-12).
 ghost use Rattle.std.specs.Prelude.{◌≡◌, length};
+ghost use Rattle.answer.specs.Refusals.{number_of};
 ghost use Rattle.form.specs.Writing.{with_entry, with_job};
 ghost use Rattle.splash.specs.Writing as spec;
 
-use crate::cards::{Card, card_of, in_range, known_version};
-use answer::answers::{Answer, refused, told};
+use crate::cards::{Card, known_version};
+use answer::answers::{Answer, told};
+use answer::refusals::Refusal;
 use form::entries::Entry;
 use form::writing::{put_entry, put_head};
 
 // How many entries the job of a card has.
+#[tactic(auto, unfolding(crate::specs::Writing::card_entries))]
 fn entry_count(card: Card) -> u32
     ensures { result ≡ length (spec.card_entries card) }
 {
@@ -19,29 +22,27 @@ fn entry_count(card: Card) -> u32
 }
 
 // How many bytes it has.
+#[tactic(auto, unfolding(crate::specs::Writing::card_entries))]
 fn card_bytes(card: Card) -> u32
     ensures { result ≡ spec.card_bytes card }
 {
-    if card.version == 2 {
-        return 43;
-    }
-    37
+    7 + 6 * entry_count(card)
 }
 
-// The number of a card that is to be written into so many bytes of room.
-fn write_number(card: Card, room: usize) -> u32
-    ensures { result ≡ spec.write_number card room }
+// Whether a card may be written into so many bytes of room.
+fn check_card(card: Card, room: usize) -> Result<(), Refusal>
+    ensures { number_of result ≡ spec.write_number card room }
 {
     if !known_version(card.version) {
-        return 16;
+        return Err(Refusal::NoSuchVersion);
     }
-    if !in_range(card) {
-        return 17;
+    if !card.in_range() {
+        return Err(Refusal::OutOfRange);
     }
     if room < card_bytes(card) as usize {
-        return 12;
+        return Err(Refusal::NoRoom);
     }
-    0
+    Ok(())
 }
 
 // Puts the ECC entry of one of the card's rows.
@@ -59,7 +60,7 @@ fn put_value(area: &mut [u8], i: u32, row: u32, value: u32)
     )
 }
 
-// Puts the job of a card.
+// Puts the job of a card, a line for each row: a loop over the six, which stops at five for version 1, is no plainer.
 fn put_card(area: &mut [u8], card: Card)
     ensures { area.new ≡ with_job area.old 1 (spec.card_entries card) }
 {
@@ -79,11 +80,12 @@ pub fn write_card(area: &mut [u8], version: u32, width: u32, height: u32, line: 
     ensures { (result ≡ (spec.write_card area.old version width height line).answer)
         × (area.new ≡ (spec.write_card area.old version width height line).area) }
 {
-    let card = card_of(version, width, height, line);
-    let number = write_number(card, area.len());
-    if number != 0 {
-        return refused(number);
+    let card = Card::of(version, width, height, line);
+    match check_card(card, area.len()) {
+        Ok(()) => {
+            put_card(area, card);
+            told(card_bytes(card))
+        }
+        Err(refusal) => refusal.into(),
     }
-    put_card(area, card);
-    told(card_bytes(card))
 }

@@ -1,39 +1,25 @@
 -- `splash::writing::write_card` meets its contract: judged whole before the first byte is put.
-use Rattle.std.proofs.Common.{◌≡◌, ℕ, List, length, sym, ap, ◌∙◌}
-use Rattle.answer.specs.Answers.{told}
-use Rattle.answer.specs.declared.answers.Answer.{Answer}
-use Rattle.form.specs.Writing.{with_job}
+use Rattle.std.proofs.Common.{length, refl, sym, ap, ◌∙◌}
+use Rattle.std.proofs.lemmas.Bool.{eqb-false}
+use Rattle.answer.proofs.Numbered.{not_done}
 use Rattle.splash.specs.Cards.{card_of}
-use Rattle.splash.specs.Writing.{Written, write_card, write_number, card_bytes, card_entries}
+use Rattle.splash.specs.Writing.{write_card, write_number}
 use Rattle.splash.specs.declared.cards.Card.{Card}
 use Rattle.splash.proofs.Leaving.{write_refused, write_done}
 use Rattle.splash.proofs.writing.write_card.Goals as goal
 
--- an equation of what is left gives both of its parts
-both : (written : Written) (answer : Answer) (area : List ℕ) → written ≡ record { answer = answer; area = area }
-    → (answer ≡ written.answer) × (area ≡ written.area)
-both written answer area e = (ap (λ (w : Written). w.answer) (sym e), ap (λ (w : Written). w.area) (sym e))
-
-pub returns-then-number-ne0 : goal.returns-then-number-ne0
+pub returns-in-Ok : goal.returns-in-Ok
 unfolding write_card
-returns-then-number-ne0 c =
+returns-in-Ok c =
     let area = c.args.area.now in
-    let card : Card = card_of c.args.version c.args.width c.args.height c.args.line in
-    let judged : c.write_number-number.result ≡ write_number card (length area) =
-    c.write_number-number.ensures ∙ ap (λ (card : Card). write_number card (length area)) c.card_of-card.ensures
-    in
-    let left = both _ _ _ (write_refused area card _ judged c.if-number-ne0.true) in
-    (c.refused.ensures ∙ left.0, left.1)
+    let judged = c.in-Ok.ensures ∙ ap (λ (card : Card). write_number card (length area)) c.of-card.ensures in
+    let left = write_done area (card_of c.args.version c.args.width c.args.height c.args.line) (sym judged) in
+    rw (c.told.ensures, c.card_bytes.ensures, c.put_card.ensures, c.of-card.ensures, left) (refl, refl)
 
-pub returns : goal.returns
+pub returns-in-Err : goal.returns-in-Err
 unfolding write_card
-returns c =
+returns-in-Err c =
     let area = c.args.area.now in
-    let card : Card = card_of c.args.version c.args.width c.args.height c.args.line in
-    let judged : c.write_number-number.result ≡ write_number card (length area) =
-    c.write_number-number.ensures ∙ ap (λ (card : Card). write_number card (length area)) c.card_of-card.ensures
-    in
-    let left = both _ _ _ (write_done area card (sym judged ∙ c.if-number-ne0.false)) in (
-      c.told.ensures ∙ ap told (c.card_bytes.ensures ∙ ap card_bytes c.card_of-card.ensures) ∙ left.0,
-      c.put_card.ensures ∙ ap (λ (card : Card). with_job area 1 (card_entries card)) c.card_of-card.ensures ∙ left.1,
-    )
+    let judged = c.in-Err.ensures ∙ ap (λ (card : Card). write_number card (length area)) c.of-card.ensures in
+    let left = write_refused area (card_of c.args.version c.args.width c.args.height c.args.line) _ judged (eqb-false _ 0 (not_done c.in-Err.refusal)) in
+    rw (c.into.ensures, left) (refl, refl)
