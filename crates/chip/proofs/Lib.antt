@@ -1,3 +1,4 @@
 pub mod Lists
 pub mod Orders
 pub mod PageBits
+pub mod Same

@@ -9,8 +9,8 @@ use native.Mathlib.Numerals.{add-one}
 use native.Mathlib.Omega.{arith}
 use borrow.Author.Tests.{lt-ltb, le-ltb, le-leb, lt-leb, ltb-true, ltb-false, leb-true}
 use lib.Dec.{leb, ltb}
-use lib.ListN.{length, get_or, take, drop, length-drop}
-use lib.Seq.{drop-cons, drop-length, take_all}
+use lib.ListN.{length, get_or, drop}
+use lib.Seq.{drop-cons, drop-length}
 use Rattle.std.proofs.lemmas.List.Recursion.{and_from_places, and_fails_at}
 use Rattle.std.specs.Prelude.{Option, Some, None, if◌then◌else◌}
 use Rattle.typed.specs.Numbers.{within, hexadecimal, digit_of, digit_in, digits_below, value_with, number_in, key_of, key_spelled}
@@ -93,10 +93,6 @@ module _ (byte : ℕ) where
 pub hexadecimal_long : (text : List ℕ) → hexadecimal text ≡ true → 2 ≤ length text
 unfolding hexadecimal
 hexadecimal_long text begins = leb-true 2 (length text) (both _ _ (both _ _ begins).0).0
-
--- all that is left after a place
-pub rest_whole : (n : ℕ) (text : List ℕ) → take (length text - n) (drop n text) ≡ drop n text
-rest_whole n text = take_all (length text - n) (drop n text) (rw (length-drop n text) (omega arith))
 
 -- the number that is left to read after a value
 abbrev pub left : ℕ → ℕ → List ℕ → Option ℕ

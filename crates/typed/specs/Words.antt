@@ -1,9 +1,11 @@
 -- A text as lines and words.
 use Rattle.std.specs.Prelude.{ℕ, zero, suc, ◌+◌, ◌-◌, min, Bool, not, ◌||◌, List, [], ◌∷◌, eqb, leb, length, take, drop}
 use Rattle.std.specs.Prelude.{if◌then◌else◌}
-use Rattle.typed.specs.declared.words.Span.{Span}
-use Rattle.typed.specs.declared.words.Stop.{Stop}
-use Rattle.typed.specs.declared.words.Stop.TheVariants.{LineEnd, Comment, Blank, Word}
+
+-- where a word begins, and where it is past
+pub record Span : Type 0 where
+  pub from : ℕ
+  pub to : ℕ
 
 -- a line ends with a line feed
 abbrev pub ends_line : ℕ → Bool
@@ -19,13 +21,6 @@ is_blank byte = eqb byte 32 || eqb byte 9 || eqb byte 13
 
 abbrev pub is_written : ℕ → Bool
 is_written byte = not (is_blank byte)
-
--- what each search stops at
-abbrev pub stops_at : Stop → ℕ → Bool
-stops_at LineEnd = ends_line
-stops_at Comment = begins_comment
-stops_at Blank = is_blank
-stops_at Word = is_written
 
 -- what stands before the first byte of a kind, and all where there is none
 unfoldable pub up_to : (ℕ → Bool) → List ℕ → List ℕ

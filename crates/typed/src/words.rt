@@ -1,131 +1,78 @@
 // A text as lines and words: a line ends at its comment, which begins with '#', and blanks part its words.
-ghost use Rattle.std.specs.Prelude.{◌≡◌};
+ghost use Rattle.std.specs.Prelude.{◌≡◌, ◌≤◌, drop, eqb, length};
 ghost use Rattle.chip.specs.Lists as lists;
 ghost use Rattle.typed.specs.Words as spec;
-
-// What a search stops at.
-#[derive(Clone, Copy)]
-enum Stop {
-    LineEnd,
-    Comment,
-    Blank,
-    Word,
-}
-
-// Where a word begins, and where it is past.
-#[derive(Clone, Copy)]
-pub struct Span {
-    pub from: usize,
-    pub to: usize,
-}
 
 // A line of a text from another system ends with a carriage return too.
 fn is_blank(byte: u8) -> bool
     ensures { result ≡ spec.is_blank byte }
 {
-    if byte == b' ' {
-        return true;
-    }
-    if byte == b'\t' {
-        return true;
-    }
-    byte == b'\r'
+    matches!(byte, b' ' | b'\t' | b'\r')
 }
 
-fn stops(stop: Stop, byte: u8) -> bool
-    ensures { result ≡ spec.stops_at stop byte }
+// What stands before the first such byte of a text, and all of it where there is none.
+fn before(text: &[u8], byte: u8) -> &[u8]
+    ensures { result.now ≡ spec.up_to (λ own. eqb own byte) text.now }
 {
-    match stop {
-        Stop::LineEnd => byte == b'\n',
-        Stop::Comment => byte == b'#',
-        Stop::Blank => is_blank(byte),
-        Stop::Word => !is_blank(byte),
-    }
+    let end = text.iter().position(|own| *own == byte);
+    &text[..end.unwrap_or(text.len())]
 }
 
-// The first place from one on where a search stops, or the end of the text.
-fn find(text: &[u8], from: usize, stop: Stop) -> usize
-    ensures { result ≡ spec.place_of (spec.stops_at stop) text.now from }
+// The first word of a text that begins with one.
+fn first_word(text: &[u8]) -> &[u8]
+    ensures value { result.now ≡ spec.up_to spec.is_blank text.now }
+    ensures upper_bound { length result.now ≤ length text.now }
 {
-    let mut i = from;
-    while i < text.len() {
-        if stops(stop, text[i]) {
-            return i;
-        }
-        i += 1;
-    }
-    text.len()
+    let end = text.iter().position(|own| is_blank(*own));
+    &text[..end.unwrap_or(text.len())]
+}
+
+// A text without the blanks that it begins with.
+fn past_blanks(text: &[u8]) -> &[u8]
+    ensures { result.now ≡ drop (length (spec.up_to spec.is_written text.now)) text.now }
+{
+    let start = text.iter().position(|own| !is_blank(*own));
+    &text[start.unwrap_or(text.len())..]
 }
 
 // A part of a text, and nothing where the text has no such part.
 pub fn part(text: &[u8], from: usize, to: usize) -> &[u8]
     ensures { result.now ≡ spec.part_of text.now from to }
 {
-    if text.len() < to {
-        return &text[0..0];
-    }
-    if to < from {
-        return &text[0..0];
-    }
-    &text[from..to]
+    text.get(from..to).unwrap_or(&[])
 }
 
 // What the line that begins at a place says.
 pub fn line_at(text: &[u8], start: usize) -> &[u8]
     ensures { result.now ≡ spec.line_at text.now start }
 {
-    let line = part(text, start, find(text, start, Stop::LineEnd));
-    part(line, 0, find(line, 0, Stop::Comment))
+    let line = before(part(text, start, text.len()), b'\n');
+    before(line, b'#')
 }
 
 // Where the next line begins, which is the end of the text after the last.
 pub fn next_line(text: &[u8], start: usize) -> usize
     ensures { result ≡ spec.next_line text.now start }
 {
-    let end = find(text, start, Stop::LineEnd);
-    if end < text.len() {
-        return end + 1;
-    }
-    end
-}
-
-// The first word from a place on.
-fn word_from(line: &[u8], from: usize) -> Span
-    ensures { result ≡ spec.word_from line.now from }
-{
-    let start = find(line, from, Stop::Word);
-    Span {
-        from: start,
-        to: find(line, start, Stop::Blank),
-    }
+    let line = before(part(text, start, text.len()), b'\n');
+    (start.min(text.len()) + line.len() + 1).min(text.len())
 }
 
 // A word of a line, counted from 0. It is empty where there is none.
-pub fn word(line: &[u8], n: u32) -> Span
-    ensures { result ≡ spec.word_at line.now n }
+pub fn word(line: &[u8], n: u32) -> &[u8]
+    ensures { result.now ≡ spec.word_of line.now n }
 {
-    let mut span = word_from(line, 0);
-    let mut i = 0;
-    while i < n {
-        span = word_from(line, span.to);
-        i += 1;
+    let mut rest = past_blanks(line);
+    for _ in 0..n {
+        rest = past_blanks(&rest[first_word(rest).len()..]);
     }
-    span
+    first_word(rest)
 }
 
 // Whether two texts are the same.
+#[tactic(auto, using(chip::proofs::Same::same_as))]
 pub fn same(a: &[u8], b: &[u8]) -> bool
     ensures { result ≡ lists.same a.now b.now }
 {
-    if a.len() != b.len() {
-        return false;
-    }
-    let mut i = 0;
-    while i < a.len() {
-        if a[i] != b[i] {
-            return false;
-        }
-        i += 1;
-    }
-    true
+    a == b
 }

@@ -1,8 +1,11 @@
--- `crate::words::next_line` meets its contract: no place is past the end of the text.
-use Rattle.std.proofs.Common.{arith}
-use Rattle.typed.specs.Words.{ends_line}
-use Rattle.typed.proofs.Finding.{place_inside}
+-- `typed::words::next_line` meets its contract: past the end of this line.
+use Rattle.std.proofs.Common.{ap, ◌∙◌}
+use Rattle.typed.specs.Words.{ends_line, up_to, place_of}
+use Rattle.typed.proofs.Finding.{part_rest}
 use Rattle.typed.proofs.words.next_line.Goals as goal
 
 pub returns : goal.returns
-returns c = omega (arith, place_inside ends_line c.args.text.now c.args.start)
+unfolding place_of
+returns c =
+    let line = c.before-line.ensures ∙ ap (up_to ends_line) (c.part.ensures ∙ part_rest c.args.text.now c.args.start) in
+    rw (c.min-2.ensures, c.min.ensures, line)

@@ -1,0 +1,15 @@
+-- `typed::words::first_word` meets its contract: up to the first blank.
+use Rattle.std.proofs.Common.{ℕ, Bool, ◌∙◌, rules, tests}
+use Rattle.std.proofs.lemmas.Iterator.{YieldsList-from_slice}
+use Rattle.std.proofs.lemmas.Iterator.Search.{position_from_yields_List}
+use Rattle.typed.specs.Words.{is_blank}
+use Rattle.typed.proofs.Finding.{found, up_to_first}
+use Rattle.typed.proofs.words.first_word.Goals as goal
+
+pub returns-clause-value : goal.returns-clause-value
+returns-clause-value c =
+    let text = c.args.text.now in
+    let kind : ℕ → Bool = is_blank in
+    let place = position_from_yields_List kind _ _ c.position-end.result c.position-end.ensures.ran (YieldsList-from_slice text cc) (λ x b q k. search (rules, tests)) in
+    let at = c.unwrap_or.ensures ∙ found kind text c.position-end.result place in
+    rw at (up_to_first kind text)
