@@ -9,7 +9,7 @@ use crate::word;
 use image::rows::bytes_of;
 use std::fs::{File, OpenOptions};
 use std::io::Write;
-use std::{fs, io};
+use std::{fmt, fs, io};
 
 // Gives a new file its bytes, sees that they have reached the disk, and closes it. Closing tells of no error.
 fn fill(mut file: File, bytes: &[u8]) -> io::Result<()> {
@@ -94,6 +94,30 @@ pub fn saved_line(rt: &HostRuntime, words: Words) -> io::Result<()> {
         return Ok(());
     };
     print!(rt; "saved as ")?;
+    word::print(rt, place)?;
+    println!(rt;)
+}
+
+// How many entries a job has that is written: "1 entry", "5 entries".
+#[derive(Clone, Copy)]
+pub struct Entries(pub u32);
+
+impl fmt::Display for Entries {
+    fn fmt<W: fmt::Write>(&self, f: &mut fmt::Formatter<W>) -> fmt::Result {
+        match self.0 {
+            1 => write!(f, "1 entry"),
+            count => write!(f, "{count} entries"),
+        }
+    }
+}
+
+// "5 entries, written as card.job"
+pub fn written_line(
+    rt: &HostRuntime,
+    what: impl fmt::Display + Drop,
+    place: usize,
+) -> io::Result<()> {
+    print!(rt; "{what}, written as ")?;
     word::print(rt, place)?;
     println!(rt;)
 }

@@ -1,5 +1,6 @@
 // Whether the words fit the command. Where they do not, one line says so, and the command has ended.
 ghost use Rattle.std.specs.Prelude.{◌≡◌, IfErr, IfNone, IsErrAnd, MatchResult};
+ghost use Rattle.typed.specs.Numbers.{number_of};
 ghost use Rattle.console.specs.Ends.{StopsWith};
 ghost use Rattle.console.specs.Given as spec;
 
@@ -30,7 +31,7 @@ pub fn not_a_number<T>(rt: &HostRuntime, place: usize) -> Result<T, Stop>
 
 // The number that a word spells, which must be one.
 pub fn number(rt: &HostRuntime, place: usize) -> Result<u32, Stop>
-    ensures stop { IfErr result (StopsWith End.Usage) }
+    ensures { MatchResult result (λ own. spec.SomeWord (λ word. number_of word ≡ Some own)) (StopsWith End.Usage) }
 {
     match word::number(rt, place) {
         Some(number) => Ok(number),
