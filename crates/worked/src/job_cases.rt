@@ -1,10 +1,119 @@
 // Jobs that are done, malformed, out of order and refused by an entry (document 01, "Jobs").
 // A refused job leaves each row as it was.
-use crate::job_lines::{Board, Must, job_line, ready};
-use crate::print;
+use crate::job_lines::{Board, Told, job_line, ready};
+use crate::table::Table;
 use job::jobs::run_job;
-use screen::same::same_rows;
-use screen::tally::Tally;
+use std::io;
+
+// A name, the bytes of a job, and what must be answered.
+pub type Case = (&'static str, &'static [u8], Told);
+
+const CASES: [Case; 23] = [
+    // Jobs that are done.
+    (
+        "document 01's whole file",
+        b"\x4f\x54\x4a\x01\x00\x01\x00\xc0\x00\x00\x01\x00\x00",
+        Told(0, 1, 4),
+    ),
+    ("no entry", b"\x4f\x54\x4a\x01\x00\x00\x00", Told(0, 0, 0)),
+    (
+        "a raw entry over two bits",
+        b"\x4f\x54\x4a\x01\x00\x01\x00\xc1\x00\x01\x01\x00\xff",
+        Told(0, 1, 8),
+    ),
+    (
+        "an entry that stands already",
+        b"\x4f\x54\x4a\x01\x00\x01\x00\xc1\x00\x01\x03\x00\x00",
+        Told(0, 1, 0),
+    ),
+    // Malformed by their heads, or by their lengths.
+    ("no byte", b"", Told(10, 0, 0)),
+    ("six bytes", b"\x4f\x54\x4a\x01\x00\x00", Told(10, 0, 0)),
+    (
+        "a wrong mark",
+        b"\x4f\x54\x4b\x01\x00\x00\x00",
+        Told(10, 0, 0),
+    ),
+    ("version 3", b"\x4f\x54\x4a\x03\x00\x00\x00", Told(10, 0, 0)),
+    (
+        "version, high byte first",
+        b"\x4f\x54\x4a\x00\x01\x00\x00",
+        Told(10, 0, 0),
+    ),
+    (
+        "a count of 513",
+        b"\x4f\x54\x4a\x01\x00\x01\x02",
+        Told(10, 0, 0),
+    ),
+    (
+        "a byte too few",
+        b"\x4f\x54\x4a\x01\x00\x01\x00\xc0\x00\x00\x01\x00",
+        Told(10, 0, 0),
+    ),
+    (
+        "a byte too many",
+        b"\x4f\x54\x4a\x01\x00\x01\x00\xc0\x00\x00\x01\x00\x00\x00",
+        Told(10, 0, 0),
+    ),
+    // Malformed by an entry.
+    (
+        "a kind of 2",
+        b"\x4f\x54\x4a\x01\x00\x01\x00\xc0\x00\x02\x01\x00\x00",
+        Told(10, 0, 0),
+    ),
+    (
+        "an ECC value of 65,536",
+        b"\x4f\x54\x4a\x01\x00\x01\x00\xc0\x00\x00\x00\x00\x01",
+        Told(10, 0, 0),
+    ),
+    (
+        "out of order, then a bad kind",
+        b"\x4f\x54\x4a\x01\x00\x02\x00\x40\x0f\x00\x01\x00\x00\xc0\x00\x02\x01\x00\x00",
+        Told(10, 0, 0),
+    ),
+    // Out of order.
+    (
+        "row 0xf40",
+        b"\x4f\x54\x4a\x01\x00\x01\x00\x40\x0f\x00\x01\x00\x00",
+        Told(11, 0, 0),
+    ),
+    (
+        "row 0xffff",
+        b"\x4f\x54\x4a\x01\x00\x01\x00\xff\xff\x00\x01\x00\x00",
+        Told(11, 0, 0),
+    ),
+    (
+        "a row twice",
+        b"\x4f\x54\x4a\x01\x00\x02\x00\xc0\x00\x00\x01\x00\x00\xc0\x00\x00\x01\x00\x00",
+        Told(11, 0, 0),
+    ),
+    (
+        "a row below the one before",
+        b"\x4f\x54\x4a\x01\x00\x02\x00\xc3\x00\x00\x01\x00\x00\xc0\x00\x00\x01\x00\x00",
+        Told(11, 0, 0),
+    ),
+    // Refused by an entry.
+    (
+        "second entry not permitted",
+        b"\x4f\x54\x4a\x01\x00\x02\x00\xc0\x00\x00\x01\x00\x00\x40\x01\x00\x01\x00\x00",
+        Told(7, 1, 0),
+    ),
+    (
+        "second entry's row too large",
+        b"\x4f\x54\x4a\x01\x00\x02\x00\xc0\x00\x00\x01\x00\x00\xc2\x00\x01\x01\x00\x00",
+        Told(3, 1, 0),
+    ),
+    (
+        "second entry fits neither",
+        b"\x4f\x54\x4a\x01\x00\x02\x00\xc0\x00\x00\x01\x00\x00\xc1\x00\x00\x01\x00\x00",
+        Told(9, 1, 0),
+    ),
+    (
+        "9 first, 7 after it",
+        b"\x4f\x54\x4a\x01\x00\x02\x00\xc1\x00\x00\x01\x00\x00\x40\x01\x00\x01\x00\x00",
+        Told(9, 0, 0),
+    ),
+];
 
 // Page 5 is read only to Secure, and row 0x0c1 has two bits that no polarity of 1 holds.
 fn board() -> Board {
@@ -15,173 +124,28 @@ fn board() -> Board {
 }
 
 // A job run on that board, whose row 0x0c2 is too large once the board is reset.
-pub fn case(before: Tally, name: &[u8], bytes: &[u8], must: Must) -> Tally {
+pub fn case(table: &mut Table, name: &str, bytes: &[u8], must: Told) -> io::Result<()> {
     let mut rows = board();
     let state = ready(&rows);
     rows[0x0c2] = 0x1000000;
     let first = rows;
     let outcome = run_job(&mut rows, state, bytes);
     let answer = outcome.answer;
-    let kept = answer.number == 0 || same_rows(&rows, &first);
-    job_line(before, name, answer, must, kept)
+    let kept = answer.number == 0 || rows == first;
+    job_line(table, name, answer, must, kept)
 }
 
-fn done(start: Tally) -> Tally {
-    let one = case(
-        start,
-        b"document 01's whole file",
-        b"\x4f\x54\x4a\x01\x00\x01\x00\xc0\x00\x00\x01\x00\x00",
-        Must(0, 1, 4),
-    );
-    let none = case(
-        one,
-        b"no entry",
-        b"\x4f\x54\x4a\x01\x00\x00\x00",
-        Must(0, 0, 0),
-    );
-    let raw = case(
-        none,
-        b"a raw entry over two bits",
-        b"\x4f\x54\x4a\x01\x00\x01\x00\xc1\x00\x01\x01\x00\xff",
-        Must(0, 1, 8),
-    );
-    case(
-        raw,
-        b"an entry that stands already",
-        b"\x4f\x54\x4a\x01\x00\x01\x00\xc1\x00\x01\x03\x00\x00",
-        Must(0, 1, 0),
-    )
+pub fn cases(table: &mut Table, cases: &[Case]) -> io::Result<()> {
+    for &(name, bytes, must) in cases {
+        case(table, name, bytes, must)?;
+    }
+    Ok(())
 }
 
-fn malformed_heads(start: Tally) -> Tally {
-    let empty = case(start, b"no byte", b"", Must(10, 0, 0));
-    let short = case(
-        empty,
-        b"six bytes",
-        b"\x4f\x54\x4a\x01\x00\x00",
-        Must(10, 0, 0),
-    );
-    let mark = case(
-        short,
-        b"a wrong mark",
-        b"\x4f\x54\x4b\x01\x00\x00\x00",
-        Must(10, 0, 0),
-    );
-    let version = case(
-        mark,
-        b"version 3",
-        b"\x4f\x54\x4a\x03\x00\x00\x00",
-        Must(10, 0, 0),
-    );
-    let turned = case(
-        version,
-        b"version, high byte first",
-        b"\x4f\x54\x4a\x00\x01\x00\x00",
-        Must(10, 0, 0),
-    );
-    let count = case(
-        turned,
-        b"a count of 513",
-        b"\x4f\x54\x4a\x01\x00\x01\x02",
-        Must(10, 0, 0),
-    );
-    let cut = case(
-        count,
-        b"a byte too few",
-        b"\x4f\x54\x4a\x01\x00\x01\x00\xc0\x00\x00\x01\x00",
-        Must(10, 0, 0),
-    );
-    case(
-        cut,
-        b"a byte too many",
-        b"\x4f\x54\x4a\x01\x00\x01\x00\xc0\x00\x00\x01\x00\x00\x00",
-        Must(10, 0, 0),
-    )
-}
-
-fn malformed_entries(start: Tally) -> Tally {
-    let kind = case(
-        start,
-        b"a kind of 2",
-        b"\x4f\x54\x4a\x01\x00\x01\x00\xc0\x00\x02\x01\x00\x00",
-        Must(10, 0, 0),
-    );
-    let value = case(
-        kind,
-        b"an ECC value of 65,536",
-        b"\x4f\x54\x4a\x01\x00\x01\x00\xc0\x00\x00\x00\x00\x01",
-        Must(10, 0, 0),
-    );
-    case(
-        value,
-        b"out of order, then a bad kind",
-        b"\x4f\x54\x4a\x01\x00\x02\x00\x40\x0f\x00\x01\x00\x00\xc0\x00\x02\x01\x00\x00",
-        Must(10, 0, 0),
-    )
-}
-
-fn out_of_order(start: Tally) -> Tally {
-    let high = case(
-        start,
-        b"row 0xf40",
-        b"\x4f\x54\x4a\x01\x00\x01\x00\x40\x0f\x00\x01\x00\x00",
-        Must(11, 0, 0),
-    );
-    let far = case(
-        high,
-        b"row 0xffff",
-        b"\x4f\x54\x4a\x01\x00\x01\x00\xff\xff\x00\x01\x00\x00",
-        Must(11, 0, 0),
-    );
-    let equal = case(
-        far,
-        b"a row twice",
-        b"\x4f\x54\x4a\x01\x00\x02\x00\xc0\x00\x00\x01\x00\x00\xc0\x00\x00\x01\x00\x00",
-        Must(11, 0, 0),
-    );
-    case(
-        equal,
-        b"a row below the one before",
-        b"\x4f\x54\x4a\x01\x00\x02\x00\xc3\x00\x00\x01\x00\x00\xc0\x00\x00\x01\x00\x00",
-        Must(11, 0, 0),
-    )
-}
-
-fn refused_entries(start: Tally) -> Tally {
-    let locked = case(
-        start,
-        b"second entry not permitted",
-        b"\x4f\x54\x4a\x01\x00\x02\x00\xc0\x00\x00\x01\x00\x00\x40\x01\x00\x01\x00\x00",
-        Must(7, 1, 0),
-    );
-    let large = case(
-        locked,
-        b"second entry's row too large",
-        b"\x4f\x54\x4a\x01\x00\x02\x00\xc0\x00\x00\x01\x00\x00\xc2\x00\x01\x01\x00\x00",
-        Must(3, 1, 0),
-    );
-    let neither = case(
-        large,
-        b"second entry fits neither",
-        b"\x4f\x54\x4a\x01\x00\x02\x00\xc0\x00\x00\x01\x00\x00\xc1\x00\x00\x01\x00\x00",
-        Must(9, 1, 0),
-    );
-    case(
-        neither,
-        b"9 first, 7 after it",
-        b"\x4f\x54\x4a\x01\x00\x02\x00\xc1\x00\x00\x01\x00\x00\x40\x01\x00\x01\x00\x00",
-        Must(9, 0, 0),
-    )
-}
-
-pub fn run(before: Tally) -> Tally {
-    print::headings(
-        b"Jobs: number, place and pulses; a refused one leaves each row as it was",
-        b"job                           must be                          is",
-    );
-    let first = done(before);
-    let heads = malformed_heads(first);
-    let entries = malformed_entries(heads);
-    let orders = out_of_order(entries);
-    refused_entries(orders)
+pub fn run(table: &mut Table) -> io::Result<()> {
+    table.headings(
+        "Jobs: number, place and pulses; a refused one leaves each row as it was",
+        "job                           must be                          is",
+    )?;
+    cases(table, &CASES)
 }

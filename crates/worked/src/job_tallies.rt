@@ -1,11 +1,9 @@
 // The tallies that a job and a rehearsal leave, on the pages that the job names and on others (request 2026-07).
 use crate::job_lines::ready;
-use crate::print;
+use crate::table::Table;
 use chip::state::Tallies;
 use job::jobs::rehearse;
-use screen::same::same_tallies;
-use screen::tally;
-use screen::tally::Tally;
+use std::{fmt, io};
 
 // Raw entries: row 0x0c0 gets 3 bits and row 0x0ff 4, both on page 3, row 0x100 one bit, on page 4, and row 0x240 eight, on page 9.
 const JOB: [u8; 31] = [
@@ -14,106 +12,74 @@ const JOB: [u8; 31] = [
 ];
 
 // The tallies of pages 3, 4 and 9, which the job names, and of page 10, which it does not.
-#[derive(Clone, Copy)]
-struct Four(u16, u16, u16, u16);
+type Four = [u16; 4];
+
+// A limit, the four tallies before the job, and what they must be after it.
+const CUTS: [(u32, Four, Four); 15] = [
+    // After each entry, and within one.
+    (0, [0, 0, 0, 0], [0, 0, 0, 0]),
+    (1, [0, 0, 0, 0], [1, 0, 0, 0]),
+    (3, [0, 0, 0, 0], [3, 0, 0, 0]),
+    (5, [0, 0, 0, 0], [5, 0, 0, 0]),
+    (7, [0, 0, 0, 0], [7, 0, 0, 0]),
+    (8, [0, 0, 0, 0], [7, 1, 0, 0]),
+    (12, [0, 0, 0, 0], [7, 1, 4, 0]),
+    (16, [0, 0, 0, 0], [7, 1, 8, 0]),
+    (17, [0, 0, 0, 0], [7, 1, 8, 0]),
+    // A page that is named comes down to 1,536, whether or not the limit gets so far and whether or not a bit is new there.
+    (0, [1535, 1537, 65535, 65535], [1535, 1536, 1536, 65535]),
+    (1, [1535, 1537, 65535, 65535], [1536, 1536, 1536, 65535]),
+    (7, [1535, 1536, 1537, 1537], [1536, 1536, 1536, 1537]),
+    (12000, [1529, 1535, 1528, 1537], [1536, 1536, 1536, 1537]),
+    (12000, [1528, 1534, 1527, 1536], [1535, 1535, 1535, 1536]),
+    (12000, [65535, 65535, 65535, 0], [1536, 1536, 1536, 0]),
+];
 
 // The tallies with these four, and 9 on each other page.
 fn with(four: Four) -> Tallies {
-    let Four(third, fourth, ninth, tenth) = four;
     let mut tallies = [9u16; 64];
-    tallies[3] = third;
-    tallies[4] = fourth;
-    tallies[9] = ninth;
-    tallies[10] = tenth;
+    [tallies[3], tallies[4], tallies[9], tallies[10]] = four;
     tallies
 }
 
-fn four_columns(tallies: Tallies) {
-    print::text(b"  ");
-    print::right(tallies[3] as u32, 6);
-    print::right(tallies[4] as u32, 6);
-    print::right(tallies[9] as u32, 6);
-    print::right(tallies[10] as u32, 6);
+// The four of the tallies.
+#[derive(Clone, Copy)]
+struct Columns(Tallies);
+
+impl fmt::Display for Columns {
+    fn fmt<W: fmt::Write>(&self, f: &mut fmt::Formatter<W>) -> fmt::Result {
+        let tallies = self.0;
+        write!(
+            f,
+            "  {:6}{:6}{:6}{:6}",
+            tallies[3], tallies[4], tallies[9], tallies[10]
+        )
+    }
 }
 
-// A rehearsal of blank rows: the limit, the four tallies before it, what they must be after it, and what they are.
-fn cut(tally: Tally, limit: u32, first: Four, last: Four) -> Tally {
-    let job = JOB;
+// A rehearsal of blank rows: the limit, the tallies before it, what they must be after it, and what they are.
+fn cut_line(table: &mut Table, limit: u32, before: Tallies, must: Tallies) -> io::Result<()> {
     let mut rows = [0u32; 4096];
-    let blank = ready(&rows);
-    let before = with(first);
-    let must = with(last);
-    let mut state = blank;
+    let mut state = ready(&rows);
     state.tallies = before;
-    let outcome = rehearse(&mut rows, state, &job, limit);
-    let after = outcome.state;
+    let after = rehearse(&mut rows, state, &JOB, limit).state;
     let are = after.tallies;
-    let right = same_tallies(are, must);
-    print::right(limit, 5);
-    four_columns(before);
-    four_columns(must);
-    four_columns(are);
-    print::verdict(right);
-    tally::compared(tally, right)
+    print!(table.rt;
+        "{limit:5}{}{}{}",
+        Columns(before),
+        Columns(must),
+        Columns(are)
+    )?;
+    table.verdict(are == must)
 }
 
-fn after_each_entry(tally: Tally) -> Tally {
-    let none = cut(tally, 0, Four(0, 0, 0, 0), Four(0, 0, 0, 0));
-    let one = cut(none, 1, Four(0, 0, 0, 0), Four(1, 0, 0, 0));
-    let first = cut(one, 3, Four(0, 0, 0, 0), Four(3, 0, 0, 0));
-    let within = cut(first, 5, Four(0, 0, 0, 0), Four(5, 0, 0, 0));
-    let second = cut(within, 7, Four(0, 0, 0, 0), Four(7, 0, 0, 0));
-    let third = cut(second, 8, Four(0, 0, 0, 0), Four(7, 1, 0, 0));
-    let inside = cut(third, 12, Four(0, 0, 0, 0), Four(7, 1, 4, 0));
-    let last = cut(inside, 16, Four(0, 0, 0, 0), Four(7, 1, 8, 0));
-    cut(last, 17, Four(0, 0, 0, 0), Four(7, 1, 8, 0))
-}
-
-// A page that is named comes down to 1,536, whether or not the limit gets so far and whether or not a bit is new there.
-fn whatever_comes_in(tally: Tally) -> Tally {
-    let none = cut(
-        tally,
-        0,
-        Four(1535, 1537, 65535, 65535),
-        Four(1535, 1536, 1536, 65535),
-    );
-    let one = cut(
-        none,
-        1,
-        Four(1535, 1537, 65535, 65535),
-        Four(1536, 1536, 1536, 65535),
-    );
-    let full = cut(
-        one,
-        7,
-        Four(1535, 1536, 1537, 1537),
-        Four(1536, 1536, 1536, 1537),
-    );
-    let exactly = cut(
-        full,
-        12000,
-        Four(1529, 1535, 1528, 1537),
-        Four(1536, 1536, 1536, 1537),
-    );
-    let below = cut(
-        exactly,
-        12000,
-        Four(1528, 1534, 1527, 1536),
-        Four(1535, 1535, 1535, 1536),
-    );
-    cut(
-        below,
-        12000,
-        Four(65535, 65535, 65535, 0),
-        Four(1536, 1536, 1536, 0),
-    )
-}
-
-pub fn run(before: Tally) -> Tally {
-    print::headings(
-        b"Tallies of pages 3, 4, 9 and 10 over a job of 16 pulses on pages 3, 4 and 9, cut by a limit",
-        b"limit  before                    must be                   are",
-    );
-    let each = after_each_entry(before);
-    whatever_comes_in(each)
+pub fn run(table: &mut Table) -> io::Result<()> {
+    table.headings(
+        "Tallies of pages 3, 4, 9 and 10 over a job of 16 pulses on pages 3, 4 and 9, cut by a limit",
+        "limit  before                    must be                   are",
+    )?;
+    for (limit, before, must) in CUTS {
+        cut_line(table, limit, with(before), with(must))?;
+    }
+    Ok(())
 }

@@ -12,10 +12,11 @@ mod job_cuts;
 mod job_lines;
 mod job_tallies;
 mod job_versions;
-mod print;
+mod places;
 mod read_lines;
 mod samples;
 mod single_bits;
+mod table;
 mod vote_places;
 mod votes;
 mod worked_rows;
@@ -23,24 +24,38 @@ mod write_lines;
 mod writes;
 
 use screen::tally;
+use std::io;
+use table::Table;
 
-fn main() {
-    print::text(
-        b"The code of row and job against document 01: what must be, what is, and the verdict\n",
-    );
-    let start = tally::nothing_yet();
-    let worked = worked_rows::run(start);
-    let coded = codes::run(worked);
-    let damaged = damage::run(coded);
-    let doubly_damaged = double_damage::run(damaged);
-    let written = writes::run(doubly_damaged);
-    let rewritten = between::run(written);
-    let over_single_bits = single_bits::run(rewritten);
-    let voted = votes::run(over_single_bits);
-    let places = vote_places::run(voted);
-    let jobs = job_cases::run(places);
-    let cuts = job_cuts::run(jobs);
-    let tallied = job_tallies::run(cuts);
-    let all = job_versions::run(tallied);
-    tally::last_line(all);
+fn rows(table: &mut Table) -> io::Result<()> {
+    worked_rows::run(table)?;
+    codes::run(table)?;
+    damage::run(table)?;
+    double_damage::run(table)?;
+    writes::run(table)?;
+    between::run(table)?;
+    single_bits::run(table)?;
+    votes::run(table)?;
+    vote_places::run(table)
+}
+
+fn jobs(table: &mut Table) -> io::Result<()> {
+    job_cases::run(table)?;
+    job_cuts::run(table)?;
+    job_tallies::run(table)?;
+    job_versions::run(table)
+}
+
+fn main(rt: HostRuntime) -> io::Result<()> {
+    println!(rt;
+        "The code of row and job against document 01: what must be, what is, and the verdict"
+    )?;
+    let mut table = Table {
+        rt: &rt,
+        tally: tally::nothing_yet(),
+    };
+    rows(&mut table)?;
+    jobs(&mut table)?;
+    tally::last_line(table.tally);
+    Ok(())
 }

@@ -1,10 +1,9 @@
 // What a read must answer, whether an answer is that, and the line that says so.
-use crate::print;
+use crate::table::Table;
 use answer::answers::{Answer, Condition, Polarity};
 use decode::reading::read_row;
-use screen::same::same_answer;
-use screen::tally;
-use screen::tally::Tally;
+use screen::shown::{Bits, Value};
+use std::{fmt, io};
 
 // What must be is written out here, since the library's own makers of answers are under test.
 fn must(number: u32, value: u32, condition: Condition, polarity: Polarity) -> Answer {
@@ -46,64 +45,38 @@ pub fn refused(number: u32) -> Answer {
 
 // Whether a row reads as it must.
 pub fn reads(row: u32, must: Answer) -> bool {
-    same_answer(read_row(row), must)
+    read_row(row) == must
 }
 
-// The polarity, and blanks to the end of the column.
-fn polarity_column(polarity: Polarity, width: usize) {
-    match polarity {
-        Polarity::Plain => {
-            print::left(b", plain", width);
-        }
-        Polarity::Inverted => {
-            print::left(b", inverted", width);
+// How an answer is shown in its column. The place and the pulses of a read, always 0, have none, and are compared all the same.
+#[derive(Clone, Copy)]
+struct Shown(Answer);
+
+impl fmt::Display for Shown {
+    fn fmt<W: fmt::Write>(&self, f: &mut fmt::Formatter<W>) -> fmt::Result {
+        let Shown(answer) = *self;
+        let polarity = match answer.polarity {
+            Polarity::Plain => ", plain",
+            Polarity::Inverted => ", inverted",
+        };
+        write!(f, "{}, {}, ", answer.number, Value(answer.value))?;
+        match answer.condition {
+            Condition::Clean => write!(f, "clean{polarity:<12}"),
+            Condition::Repaired(place) => write!(f, "bit {place:2}{polarity:<11}"),
+            Condition::FlagWorn => write!(f, "worn{polarity:<13}"),
+            Condition::FlagWornRepaired(place) => write!(f, "worn{place:2}{polarity:<11}"),
         }
     }
 }
 
-fn condition_column(condition: Condition, polarity: Polarity) {
-    match condition {
-        Condition::Clean => {
-            print::text(b"clean");
-            polarity_column(polarity, 12);
-        }
-        Condition::Repaired(place) => {
-            print::text(b"bit ");
-            print::right(place, 2);
-            polarity_column(polarity, 11);
-        }
-        Condition::FlagWorn => {
-            print::text(b"worn");
-            polarity_column(polarity, 13);
-        }
-        Condition::FlagWornRepaired(place) => {
-            print::text(b"worn");
-            print::right(place, 2);
-            polarity_column(polarity, 11);
-        }
-    }
-}
-
-fn answer_column(answer: Answer) {
-    let condition = answer.condition;
-    let polarity = answer.polarity;
-    print::number(answer.number);
-    print::text(b", ");
-    print::value(answer.value);
-    print::text(b", ");
-    condition_column(condition, polarity);
-}
-
-// One read on a line of its own. The place and the pulses of a read, always 0, have no column, and are compared all the same.
-pub fn read_line(before: Tally, label: &[u8], row: u32, must: Answer) -> Tally {
+// One read on a line of its own.
+pub fn read_line(table: &mut Table, label: &str, row: u32, must: Answer) -> io::Result<()> {
     let is = read_row(row);
-    let right = same_answer(is, must);
-    print::left(label, 10);
-    print::text(b"read ");
-    print::bits(row);
-    print::left(b"", 15);
-    answer_column(must);
-    answer_column(is);
-    print::verdict(right);
-    tally::compared(before, right)
+    print!(table.rt;
+        "{label:<10}read {}               {}{}",
+        Bits(row),
+        Shown(must),
+        Shown(is)
+    )?;
+    table.verdict(is == must)
 }

@@ -1,123 +1,140 @@
 // Votes over gathered rows (document 01, "Votes"): two of three, three of eight, and how many of
 // the eight rows are counted.
-use crate::print;
-use screen::tally;
-use screen::tally::Tally;
+use crate::table::Table;
+use screen::shown::Bits;
+use std::io;
 use vote::voting::{threshold, vote};
 
 const FULL: u32 = 0xffffff;
 
 const LAST_THREE: [u32; 8] = [0, 0, 0, 0, 0, FULL, FULL, FULL];
 
-const ALL: [u32; 8] = [FULL, FULL, FULL, FULL, FULL, FULL, FULL, FULL];
+const ALL: [u32; 8] = [FULL; 8];
 
-fn vote_line(before: Tally, what: &[u8], must: u32, is: u32) -> Tally {
-    print::left(what, 50);
-    print::bits(must);
-    print::text(b"  ");
-    print::bits(is);
-    print::verdict(is == must);
-    tally::compared(before, is == must)
-}
+// What is special, the rows, how many of them count, how many must have a bit, and what must be voted.
+type Vote = (&'static str, [u32; 8], usize, u32, u32);
 
-fn of_three(before: Tally, what: &[u8], rows: [u32; 8], must: u32) -> Tally {
-    vote_line(before, what, must, vote(rows, 3, 2))
-}
-
-fn of_eight(before: Tally, what: &[u8], rows: [u32; 8], must: u32) -> Tally {
-    vote_line(before, what, must, vote(rows, 8, 3))
-}
-
-fn of_last_three(before: Tally, what: &[u8], count: u32, must: u32) -> Tally {
-    vote_line(before, what, must, vote(LAST_THREE, count, 3))
-}
-
-fn of_all(before: Tally, what: &[u8], count: u32, least: u32, must: u32) -> Tally {
-    vote_line(before, what, must, vote(ALL, count, least))
-}
-
-fn threshold_line(before: Tally, what: &[u8], must: u32, is: u32) -> Tally {
-    print::left(what, 50);
-    print::number(must);
-    print::left(b"", 9);
-    print::number(is);
-    print::left(b"", 7);
-    print::verdict(is == must);
-    tally::compared(before, is == must)
-}
-
-fn threshold_lines(before: Tally) -> Tally {
-    let of_3 = threshold_line(before, b"threshold of 3 rows", 2, threshold(3));
-    threshold_line(of_3, b"threshold of 8 rows", 3, threshold(8))
-}
-
-fn three_lines(before: Tally) -> Tally {
-    let two_full = [FULL, 0, FULL, 0, 0, 0, 0, 0];
-    let v1 = of_three(
-        before,
-        b"2 of 3: two rows full, met exactly",
-        two_full,
+const OF_THREE: [Vote; 6] = [
+    (
+        "2 of 3: two rows full, met exactly",
+        [FULL, 0, FULL, 0, 0, 0, 0, 0],
+        3,
+        2,
         FULL,
-    );
-    let one_full = [0, FULL, 0, 0, 0, 0, 0, 0];
-    let v2 = of_three(v1, b"2 of 3: one row full, missed by one", one_full, 0);
-    let alike = [0xabcdef, 0xabcdef, 0xabcdef, 0, 0, 0, 0, 0];
-    let v3 = of_three(v2, b"2 of 3: all three alike", alike, 0xabcdef);
-    let opposed = [0x123456, 0xedcba9, 0x123456, 0, 0, 0, 0, 0];
-    let v4 = of_three(
-        v3,
-        b"2 of 3: one row the opposite of two",
-        opposed,
-        0x123456,
-    );
-    let mixed = [0x0f0ff1, 0xf00ff2, 0xff0004, 0, 0, 0, 0, 0];
-    let v5 = of_three(v4, b"2 of 3: each bit judged by itself", mixed, 0xff0ff0);
-    let beyond = [1, 2, 4, FULL, FULL, FULL, FULL, FULL];
-    of_three(
-        v5,
-        b"2 of 3: full rows past the third not counted",
-        beyond,
+    ),
+    (
+        "2 of 3: one row full, missed by one",
+        [0, FULL, 0, 0, 0, 0, 0, 0],
+        3,
+        2,
         0,
-    )
-}
+    ),
+    (
+        "2 of 3: all three alike",
+        [0xabcdef, 0xabcdef, 0xabcdef, 0, 0, 0, 0, 0],
+        3,
+        2,
+        0xabcdef,
+    ),
+    (
+        "2 of 3: one row the opposite of two",
+        [0x123456, 0xedcba9, 0x123456, 0, 0, 0, 0, 0],
+        3,
+        2,
+        0x123456,
+    ),
+    (
+        "2 of 3: each bit judged by itself",
+        [0x0f0ff1, 0xf00ff2, 0xff0004, 0, 0, 0, 0, 0],
+        3,
+        2,
+        0xff0ff0,
+    ),
+    (
+        "2 of 3: full rows past the third not counted",
+        [1, 2, 4, FULL, FULL, FULL, FULL, FULL],
+        3,
+        2,
+        0,
+    ),
+];
 
-fn eight_lines(before: Tally) -> Tally {
-    let three_full = [FULL, 0, 0, FULL, 0, 0, 0, FULL];
-    let v1 = of_eight(
-        before,
-        b"3 of 8: three rows full, met exactly",
-        three_full,
+const OF_EIGHT: [Vote; 4] = [
+    (
+        "3 of 8: three rows full, met exactly",
+        [FULL, 0, 0, FULL, 0, 0, 0, FULL],
+        8,
+        3,
         FULL,
-    );
-    let two_full = [FULL, 0, 0, FULL, 0, 0, 0, 0];
-    let v2 = of_eight(v1, b"3 of 8: two rows full, missed by one", two_full, 0);
-    let same = 0x5aa5c3;
-    let alike = [same, same, same, same, same, same, same, same];
-    let v3 = of_eight(v2, b"3 of 8: all eight alike", alike, 0x5aa5c3);
-    let mixed = [
-        0x76a604, 0x00082f, 0x15d18c, 0x029050, 0x158043, 0x13a094, 0xa13d30, 0x079402,
-    ];
-    of_eight(v3, b"3 of 8: each bit judged by itself", mixed, 0x17b416)
+    ),
+    (
+        "3 of 8: two rows full, missed by one",
+        [FULL, 0, 0, FULL, 0, 0, 0, 0],
+        8,
+        3,
+        0,
+    ),
+    ("3 of 8: all eight alike", [0x5aa5c3; 8], 8, 3, 0x5aa5c3),
+    (
+        "3 of 8: each bit judged by itself",
+        [
+            0x76a604, 0x00082f, 0x15d18c, 0x029050, 0x158043, 0x13a094, 0xa13d30, 0x079402,
+        ],
+        8,
+        3,
+        0x17b416,
+    ),
+];
+
+const OF_OTHER_COUNTS: [Vote; 8] = [
+    ("count 8: the last three rows full", LAST_THREE, 8, 3, FULL),
+    (
+        "count 7: the last of those not counted",
+        LAST_THREE,
+        7,
+        3,
+        0,
+    ),
+    ("count 9 counts as 8", LAST_THREE, 9, 3, FULL),
+    (
+        "count 4294967295 counts as 8",
+        LAST_THREE,
+        4294967295,
+        3,
+        FULL,
+    ),
+    ("count 2, threshold 3: all rows full", ALL, 2, 3, 0),
+    ("count 2, threshold 2: all rows full", ALL, 2, 2, FULL),
+    ("count 0, threshold 3: all rows full", ALL, 0, 3, 0),
+    ("count 0, threshold 2: all rows full", ALL, 0, 2, 0),
+];
+
+const THRESHOLDS: [(&str, u32, u32); 2] = [
+    ("threshold of 3 rows", 3, 2),
+    ("threshold of 8 rows", 8, 3),
+];
+
+fn vote_lines(table: &mut Table, votes: &[Vote]) -> io::Result<()> {
+    for &(what, rows, count, least, must) in votes {
+        // There are no rows past the eighth.
+        let is = vote(&rows[..count.min(8)], least);
+        print!(table.rt; "{what:<50}{}  {}", Bits(must), Bits(is))?;
+        table.verdict(is == must)?;
+    }
+    Ok(())
 }
 
-fn count_lines(before: Tally) -> Tally {
-    let c1 = of_last_three(before, b"count 8: the last three rows full", 8, FULL);
-    let c2 = of_last_three(c1, b"count 7: the last of those not counted", 7, 0);
-    let c3 = of_last_three(c2, b"count 9 counts as 8", 9, FULL);
-    let c4 = of_last_three(c3, b"count 4294967295 counts as 8", 4294967295, FULL);
-    let c5 = of_all(c4, b"count 2, threshold 3: all rows full", 2, 3, 0);
-    let c6 = of_all(c5, b"count 2, threshold 2: all rows full", 2, 2, FULL);
-    let c7 = of_all(c6, b"count 0, threshold 3: all rows full", 0, 3, 0);
-    of_all(c7, b"count 0, threshold 2: all rows full", 0, 2, 0)
-}
-
-pub fn run(before: Tally) -> Tally {
-    print::headings(
-        b"Votes",
-        b"what                                              must be   is",
-    );
-    let thresholds = threshold_lines(before);
-    let three = three_lines(thresholds);
-    let eight = eight_lines(three);
-    count_lines(eight)
+pub fn run(table: &mut Table) -> io::Result<()> {
+    table.headings(
+        "Votes",
+        "what                                              must be   is",
+    )?;
+    for (what, count, must) in THRESHOLDS {
+        let is = threshold(count);
+        print!(table.rt; "{what:<50}{must}         {is}       ")?;
+        table.verdict(is == must)?;
+    }
+    vote_lines(table, &OF_THREE)?;
+    vote_lines(table, &OF_EIGHT)?;
+    vote_lines(table, &OF_OTHER_COUNTS)
 }

@@ -1,68 +1,55 @@
 // What a write must leave, whether what it left is that, and the line that says so.
-use crate::print;
-use row::writing::{Written, write_ecc, write_raw};
-use screen::tally;
-use screen::tally::Tally;
+use crate::table::Table;
+use answer::refusals::Refusal;
+use row::writing::{Burnt, write_ecc, write_raw};
+use screen::shown::{Bits, Value};
+use std::{fmt, io};
 
-// A row that must be burnt, with the bits newly set.
-pub fn burnt(row: u32, pulses: u32) -> Written {
-    Written {
-        number: 0,
-        row,
-        pulses,
+// What a write leaves: its number, the row, and the bits newly set. Refused, the old row stands, and no pulse is spent.
+#[derive(Clone, Copy, Debug, PartialEq, Eq)]
+pub struct Left(pub u32, pub u32, pub u32);
+
+impl Left {
+    fn of(old: u32, written: Result<Burnt, Refusal>) -> Left {
+        match written {
+            Ok(burnt) => Left(0, burnt.row, burnt.pulses),
+            Err(refusal) => Left(refusal.number(), old, 0),
+        }
     }
 }
 
-// A write that must be refused with 9: the old row stands, and no pulse is spent.
-pub fn kept(row: u32) -> Written {
-    Written {
-        number: 9,
-        row,
-        pulses: 0,
+impl fmt::Display for Left {
+    fn fmt<W: fmt::Write>(&self, f: &mut fmt::Formatter<W>) -> fmt::Result {
+        let Left(number, row, pulses) = *self;
+        write!(f, "{number}, {}, pulses {pulses:2}", Bits(row))
     }
 }
 
-fn same(a: Written, b: Written) -> bool {
-    a.number == b.number && a.row == b.row && a.pulses == b.pulses
-}
-
-fn written_column(written: Written) {
-    print::number(written.number);
-    print::text(b", ");
-    print::bits(written.row);
-    print::text(b", pulses ");
-    print::right(written.pulses, 2);
-    print::text(b"      ");
-}
-
-fn over_column(old: u32) {
-    print::text(b" over ");
-    print::bits(old);
-    print::text(b"  ");
-}
-
-fn verdict_columns(before: Tally, must: Written, is: Written) -> Tally {
-    let right = same(is, must);
-    written_column(must);
-    written_column(is);
-    print::verdict(right);
-    tally::compared(before, right)
+fn compared(table: &mut Table, old: u32, must: Left, is: Left) -> io::Result<()> {
+    print!(table.rt; " over {}  {must}      {is}      ", Bits(old))?;
+    table.verdict(is == must)
 }
 
 // One ECC write on a line of its own.
-pub fn ecc_line(before: Tally, label: &[u8], value: u16, old: u32, must: Written) -> Tally {
-    print::left(label, 10);
-    print::text(b"write ");
-    print::value(value as u32);
-    over_column(old);
-    verdict_columns(before, must, write_ecc(old, value))
+pub fn ecc_line(
+    table: &mut Table,
+    label: &str,
+    value: u16,
+    old: u32,
+    must: Left,
+) -> io::Result<()> {
+    print!(table.rt; "{label:<10}write {}", Value(value as u32))?;
+    compared(table, old, must, Left::of(old, write_ecc(old, value)))
 }
 
 // One raw write on a line of its own.
-pub fn raw_line(before: Tally, label: &[u8], value: u32, old: u32, must: Written) -> Tally {
-    print::left(label, 10);
-    print::text(b"raw ");
-    print::bits(value);
-    over_column(old);
-    verdict_columns(before, must, write_raw(old, value))
+pub fn raw_line(
+    table: &mut Table,
+    label: &str,
+    value: u32,
+    old: u32,
+    must: Left,
+) -> io::Result<()> {
+    print!(table.rt; "{label:<10}raw {}", Bits(value))?;
+    compared(table, old, must, Left::of(old, Ok(write_raw(old, value))))
 }
