@@ -1,7 +1,7 @@
 // How one line on a text begins that is not what it must be: the number of its line, and the word. What is wrong with it comes after that.
 use crate::file_errors::said;
 use std::{fmt, io};
-use typed::words::{line_at, part, word};
+use typed::words::{line_at, word};
 
 // A word as it is shown, or the beginning of one that is longer than any number has to be. No word that fits has a byte that is not to be seen,
 // so each such byte is made visible.
@@ -33,9 +33,7 @@ pub fn at(
     start: usize,
     n: u32,
 ) -> io::Result<()> {
-    let line = line_at(text, start);
-    let span = word(line, n);
-    let own = Shown(part(line, span.from, span.to));
+    let own = Shown(word(line_at(text, start), n));
     said(rt, place)?;
     print!(rt; "line {number}: '{own}': ")
 }

@@ -10,7 +10,6 @@ use crate::shown;
 use std::env::{Env, FillError};
 use std::io;
 use typed::numbers;
-use typed::words::same;
 
 // Puts a word at the start of some bytes: how long it is, or why not, where there is none or where it is longer. Then the bytes are its
 // beginning.
@@ -38,11 +37,12 @@ pub(crate) fn arg_count(rt: &HostRuntime) -> usize {
 }
 
 // Whether a word is the one named, which is shorter than 16 bytes.
+#[tactic(auto, using(chip::proofs::Same::same_as))]
 pub fn is(rt: &HostRuntime, place: usize, name: &[u8]) -> bool
     ensures { SomeWord (λ word. result ≡ same_lists word name.now) }
 {
     let mut word = [0u8; 16];
-    same(read(rt, place, &mut word), name)
+    read(rt, place, &mut word) == name
 }
 
 // Whether the program is only to say which files the command would read and write. The script ./otp asks that first.
