@@ -1,6 +1,6 @@
 // What is wrong with a job's bytes: why it is answered 10 or 11 (document 01, "Jobs"; request 2026-09).
 ghost use Rattle.std.specs.Prelude.{◌≡◌};
-ghost use Rattle.form.specs.Entries.{entries_from};
+ghost use Rattle.form.specs.Entries.{entries_of};
 ghost use Rattle.form.specs.Faults as spec;
 ghost use Rattle.form.specs.Said.{said, refusal_of};
 
@@ -74,13 +74,7 @@ pub fn fault_number(judged: Result<(), Fault>) -> u32
 fn marked(job: &[u8]) -> bool
     ensures { result ≡ spec.marked job.now }
 {
-    if byte_at(job, 0) != 0x4f {
-        return false;
-    }
-    if byte_at(job, 1) != 0x54 {
-        return false;
-    }
-    byte_at(job, 2) == 0x4a
+    byte_at(job, 0) == 0x4f && byte_at(job, 1) == 0x54 && byte_at(job, 2) == 0x4a
 }
 
 // The fault of a job's head, where the job is to have a version.
@@ -114,19 +108,17 @@ pub fn form_fault(i: u32, entry: Entry) -> Result<(), Fault>
     if 1 < entry.kind {
         return Err(Fault::Kind(i));
     }
-    if entry.kind == 0 {
-        if 65535 < entry.value {
-            return Err(Fault::Value(i));
-        }
+    if entry.kind == 0 && 65535 < entry.value {
+        return Err(Fault::Value(i));
     }
     Ok(())
 }
 
-// The first of the first `count` entries whose form is wrong.
-fn form_faults(job: &[u8], count: u32) -> Result<(), Fault>
-    ensures { said result ≡ spec.form_faults 0 (entries_from job.now 0 count) }
+// The first of a job's entries whose form is wrong.
+fn form_faults(job: &[u8]) -> Result<(), Fault>
+    ensures { said result ≡ spec.form_faults 0 (entries_of job.now) }
 {
-    for i in 0..count {
+    for i in 0..count_of(job) {
         form_fault(i, entry_at(job, i))?;
     }
     Ok(())
@@ -184,12 +176,12 @@ pub fn row_fault(version: u32, i: u32, least: u32, entry: Entry) -> Result<(), F
     order_fault(i, least, entry)
 }
 
-// The first of the first `count` entries whose row is wrong by a version's rule.
-fn order_faults(job: &[u8], version: u32, count: u32) -> Result<(), Fault>
-    ensures { said result ≡ spec.order_faults version 0 0 (entries_from job.now 0 count) }
+// The first of a job's entries whose row is wrong by a version's rule.
+fn order_faults(job: &[u8], version: u32) -> Result<(), Fault>
+    ensures { said result ≡ spec.order_faults version 0 0 (entries_of job.now) }
 {
     let mut least = 0;
-    for i in 0..count {
+    for i in 0..count_of(job) {
         let entry = entry_at(job, i);
         row_fault(version, i, least, entry)?;
         least = entry.row + 1;
@@ -202,17 +194,23 @@ fn fault_under(job: &[u8], version: u32) -> Result<(), Fault>
     ensures { said result ≡ spec.fault_under version job.now }
 {
     head_fault(job, version)?;
-    let count = count_of(job);
-    form_faults(job, count)?;
-    order_faults(job, version, count)
+    form_faults(job)?;
+    order_faults(job, version)
 }
 
-// The first fault of a job, by the rule of version 2 where that is its version, and else by that of version 1.
+// The version by whose rule a job is judged: 2 where that is its version, and else 1.
+pub fn rule_of(job: &[u8]) -> u32
+    ensures { result ≡ spec.rule_of job.now }
+{
+    match version_of(job) {
+        2 => 2,
+        _ => 1,
+    }
+}
+
+// The first fault of a job, by the rule of its version.
 pub fn fault_of(job: &[u8]) -> Result<(), Fault>
     ensures { said result ≡ spec.fault_of job.now }
 {
-    if version_of(job) == 2 {
-        return fault_under(job, 2);
-    }
-    fault_under(job, 1)
+    fault_under(job, rule_of(job))
 }

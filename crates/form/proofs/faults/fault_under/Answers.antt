@@ -1,8 +1,7 @@
 -- `form::faults::fault_under` meets its contract: the first part that has a fault answers.
 -- Assumes nothing.
-use Rattle.std.proofs.Common.{◌≡◌, ℕ, sym, ap, ◌∙◌, rules}
-use Rattle.form.specs.Entries.{entries_from}
-use Rattle.form.specs.Faults.{form_faults, order_faults, fault_under}
+use Rattle.std.proofs.Common.{◌≡◌, sym, ◌∙◌, rules}
+use Rattle.form.specs.Faults.{fault_under}
 use Rattle.form.specs.Said.{found}
 use Rattle.form.proofs.Judged.{stops, goes_on}
 use Rattle.form.proofs.faults.fault_under.Goals as goal
@@ -20,15 +19,11 @@ unfolding fault_under
 returns-in_err-form_faults c =
     let s = c.args in
     let fault = c.in_err-form_faults.field-0.0 in
-    let form = c.in_err-form_faults.ensures ∙ ap (λ (n : ℕ). form_faults 0 (entries_from s.job.now 0 n)) c.count_of-count.ensures.value in
-    let whole : fault_under s.version s.job.now ≡ found fault = goes_on _ _ c.in_ok-head_fault.ensures ∙ stops fault _ _ form in
+    let whole : fault_under s.version s.job.now ≡ found fault =
+    goes_on _ _ c.in_ok-head_fault.ensures ∙ stops fault _ _ c.in_err-form_faults.ensures in
     search rules
 
 pub returns : goal.returns
 unfolding fault_under
 returns c =
-    let s = c.args in
-    let count = c.count_of-count.ensures.value in
-    let form = c.in_ok-form_faults.ensures ∙ ap (λ (n : ℕ). form_faults 0 (entries_from s.job.now 0 n)) count in
-    c.order_faults.ensures ∙ ap (λ (n : ℕ). order_faults s.version 0 0 (entries_from s.job.now 0 n)) count
-    ∙ sym (goes_on _ _ c.in_ok-head_fault.ensures ∙ goes_on _ _ form)
+    c.order_faults.ensures ∙ sym (goes_on _ _ c.in_ok-head_fault.ensures ∙ goes_on _ _ c.in_ok-form_faults.ensures)
