@@ -4,7 +4,7 @@ ghost use Rattle.form.specs.Entries.{entries_of};
 ghost use Rattle.form.specs.Faults as spec;
 ghost use Rattle.form.specs.Said.{said, refusal_of};
 
-use crate::entries::{Entry, byte_at, count_of, entry_at, version_of};
+use crate::entries::{Entry, count_of, entry_at, version_of};
 use answer::refusals::Refusal;
 use chip::pages::Page;
 
@@ -74,7 +74,7 @@ pub fn fault_number(judged: Result<(), Fault>) -> u32
 fn marked(job: &[u8]) -> bool
     ensures { result ≡ spec.marked job.now }
 {
-    byte_at(job, 0) == 0x4f && byte_at(job, 1) == 0x54 && byte_at(job, 2) == 0x4a
+    job.starts_with(b"OTJ")
 }
 
 // The fault of a job's head, where the job is to have a version.
