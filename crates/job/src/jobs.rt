@@ -29,6 +29,7 @@ pub fn rehearse(rows: &mut [u32], state: State, job: &[u8], limit: u32) -> Outco
 }
 
 // Judges a job and burns it.
+#[tactic(auto, using(crate::proofs::Whole::whole_job))]
 pub fn run_job(rows: &mut [u32], state: State, job: &[u8]) -> Outcome
     ensures { (result ≡ (spec.run_job rows.old state job.now).outcome)
         × (rows.new ≡ (spec.run_job rows.old state job.now).rows) }

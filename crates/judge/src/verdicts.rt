@@ -83,6 +83,7 @@ struct Permit {
 
 // Whether Secure may write a row. To look it up would be most of judging an entry: so that of the row before is kept where the two
 // share permission.
+#[tactic(auto, using(permit::proofs::Sharing::share_write))]
 fn permit_for(row: u32, before: Permit, state: State) -> Permit
     requires { before.may ≡ may_write state 0 before.row }
     ensures { (result.row ≡ row) × (result.may ≡ may_write state 0 row) }
