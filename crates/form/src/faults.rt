@@ -115,6 +115,7 @@ pub fn form_fault(i: u32, entry: Entry) -> Result<(), Fault>
 }
 
 // The first of a job's entries whose form is wrong.
+#[tactic(auto, using(crate::proofs::Judged::form_stops, crate::proofs::Judged::form_goes_on, crate::proofs::Upward::none_left), unfolding(crate::specs::Faults::form_faults))]
 fn form_faults(job: &[u8]) -> Result<(), Fault>
     ensures { said result ≡ spec.form_faults 0 (entries_of job.now) }
 {
@@ -177,6 +178,7 @@ pub fn row_fault(version: u32, i: u32, least: u32, entry: Entry) -> Result<(), F
 }
 
 // The first of a job's entries whose row is wrong by a version's rule.
+#[tactic(auto, using(crate::proofs::Judged::order_stops, crate::proofs::Judged::order_goes_on, crate::proofs::Upward::none_left), unfolding(crate::specs::Faults::order_faults))]
 fn order_faults(job: &[u8], version: u32) -> Result<(), Fault>
     ensures { said result ≡ spec.order_faults version 0 0 (entries_of job.now) }
 {
@@ -190,6 +192,7 @@ fn order_faults(job: &[u8], version: u32) -> Result<(), Fault>
 }
 
 // The first fault of a job by a version's rule: its head, then the form of all entries, then the order of their rows.
+#[tactic(auto, using(crate::proofs::Judged::stops, crate::proofs::Judged::goes_on), unfolding(crate::specs::Faults::fault_under))]
 fn fault_under(job: &[u8], version: u32) -> Result<(), Fault>
     ensures { said result ≡ spec.fault_under version job.now }
 {

@@ -14,6 +14,7 @@ use judge::verdicts::verdict_of;
 pub const MOST_PULSES: u32 = 24 * MOST_ENTRIES;
 
 // Judges a job, and burns it until the pulses of the limit are spent.
+#[tactic(auto, using(answer::proofs::Numbered::not_done), unfolding(crate::specs::Jobs::rehearse))]
 pub fn rehearse(rows: &mut [u32], state: State, job: &[u8], limit: u32) -> Outcome
     ensures { (result ≡ (spec.rehearse rows.old state job.now limit).outcome)
         × (rows.new ≡ (spec.rehearse rows.old state job.now limit).rows) }

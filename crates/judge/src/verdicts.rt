@@ -132,7 +132,7 @@ fn judged(rows: &[u32], state: State, job: &[u8], count: u32) -> Result<(), Refu
 }
 
 // A job judged whole.
-#[tactic(auto, unfolding(crate::specs::Verdicts::verdict_of))]
+#[tactic(auto, using(crate::proofs::Upward::rungs_stop, crate::proofs::Upward::rungs_next), unfolding(crate::specs::Verdicts::verdict_of))]
 pub fn verdict_of(rows: &[u32], state: State, job: &[u8]) -> Result<(), Refused>
     ensures { spec.given result ≡ spec.verdict_of rows.now state job.now }
 {
