@@ -5,7 +5,7 @@ ghost use Rattle.answer.specs.Refusals.{refusal_number, number_of};
 ghost use Rattle.answer.specs.Rungs.{first_of};
 ghost use Rattle.row.specs.Writing.{written_by};
 ghost use Rattle.permit.specs.Permission.{may_write};
-ghost use Rattle.form.specs.Entries.{entries_from};
+ghost use Rattle.form.specs.Entries.{entries_of};
 ghost use Rattle.form.specs.Said.{refusal_of};
 ghost use Rattle.judge.specs.Verdicts as spec;
 
@@ -89,10 +89,7 @@ fn permit_for(row: u32, before: Permit, state: State) -> Permit
     ensures { (result.row ≡ row) × (result.may ≡ may_write state 0 row) }
 {
     if share_permission(before.row, row) {
-        return Permit {
-            row,
-            may: before.may,
-        };
+        return Permit { row, ..before };
     }
     let may = may_write(state, 0, row);
     Permit { row, may }
@@ -116,12 +113,12 @@ fn check_entry(rows: &[u32], may: bool, entry: Entry) -> Result<(), Refusal>
 }
 
 // The entries in order: the first that is refused gives its refusal and its index.
-fn judged(rows: &[u32], state: State, job: &[u8], count: u32) -> Result<(), Refused>
-    ensures { spec.given result ≡ spec.verdict (spec.all_rungs rows.now state 0 (entries_from job.now 0 count)) }
+fn judged(rows: &[u32], state: State, job: &[u8]) -> Result<(), Refused>
+    ensures { spec.given result ≡ spec.verdict (spec.all_rungs rows.now state 0 (entries_of job.now)) }
 {
     let may = may_write(state, 0, 0);
     let mut permit = Permit { row: 0, may };
-    for i in 0..count {
+    for i in 0..count_of(job) {
         let entry = entry_at(job, i);
         permit = permit_for(entry.row, permit, state);
         if let Err(refusal) = check_entry(rows, permit.may, entry) {
@@ -140,5 +137,5 @@ pub fn verdict_of(rows: &[u32], state: State, job: &[u8]) -> Result<(), Refused>
         return Err(Refusal::NotWhole.into());
     }
     fault_of(job)?;
-    judged(rows, state, job, count_of(job))
+    judged(rows, state, job)
 }

@@ -6,6 +6,7 @@ use Rattle.answer.specs.Rungs.{first_of}
 use Rattle.answer.proofs.Numbered.{not_done}
 use Rattle.permit.specs.Permission.{may_write}
 use Rattle.chip.specs.declared.state.State.{State}
+use Rattle.form.specs.Entries.{count_of}
 use Rattle.form.specs.declared.entries.Entry.{Entry}
 use Rattle.judge.specs.Verdicts.{Verdict, entry_rungs, all_rungs, verdict}
 use Rattle.form.proofs.Upward.{none_left}
@@ -29,7 +30,7 @@ returns-in-Err c =
     let s = c.args in
     let l = c.loop-i in
     let number = of_entry s.rows.now s.state l.i _ _ _ _ c.entry_at-entry.ensures c.permit_for-permit.ensures.1 c.in-Err.ensures in
-    sym (l.invariant.1 ∙ judged_stops s.job.now s.count l.i (omega arith) s.rows.now s.state (λ none. eqb-false _ 0 (not_done c.in-Err.refusal) (number ∙ none))
+    sym (l.invariant.1 ∙ judged_stops s.job.now (count_of s.job.now) l.i (omega arith) s.rows.now s.state (λ none. eqb-false _ 0 (not_done c.in-Err.refusal) (number ∙ none))
     ∙ ap (λ (n : ℕ). at_place n l.i) (sym number))
 
 pub loop-i-preserved : goal.loop-i-preserved
@@ -39,7 +40,7 @@ loop-i-preserved c =
     let permit = c.permit_for-permit in
     let number = of_entry s.rows.now s.state l.i _ _ _ _ c.entry_at-entry.ensures permit.ensures.1 c.in_default.ensures in (
       permit.ensures.1 ∙ ap (may_write s.state 0) (sym permit.ensures.0),
-      l.invariant.1 ∙ judged_next s.job.now s.count l.i (omega arith) s.rows.now s.state (sym number),
+      l.invariant.1 ∙ judged_next s.job.now (count_of s.job.now) l.i (omega arith) s.rows.now s.state (sym number),
     )
 
 pub returns : goal.returns
@@ -47,4 +48,4 @@ unfolding all_rungs
 returns c =
     let s = c.args in
     let l = c.loop-i in
-    sym (l.invariant.1 ∙ ap (λ (es : List Entry). verdict (all_rungs s.rows.now s.state l.i es)) (none_left s.job.now s.count l.i (omega arith)))
+    sym (l.invariant.1 ∙ ap (λ (es : List Entry). verdict (all_rungs s.rows.now s.state l.i es)) (none_left s.job.now (count_of s.job.now) l.i (omega arith)))
