@@ -1,17 +1,21 @@
 -- What is said of a row's page is so of the row, if it is a data row.
 -- Assumes nothing.
-use Prim.Native.Nat.{ℕ, ◌*◌, ◌/◌, ◌<◌}
-use mathlib.Core.Bool.{Bool, false}
-use mathlib.Core.List.{List}
-use mathlib.Core.Path.{◌≡◌, ap, ◌∙◌}
+use Prim.Native.Nat.{ℕ, ◌+◌, ◌*◌, ◌/◌, ◌<◌}
+use mathlib.Core.Bool.{Bool, false, ◌&&◌, ◌||◌}
+use mathlib.Core.List.{List, [], ◌∷◌}
+use mathlib.Core.Path.{◌≡◌, refl, ap, ap₂, ◌∙◌}
 use native.Mathlib.Omega.{arith}
 use borrow.Author.Tests.{eq-eqb}
+use Rattle.std.specs.List.{list_any}
 use Rattle.permit.specs.Permission.{may_write}
 use Rattle.permit.proofs.Sharing.{share_write, share_data}
 use Rattle.chip.specs.Pages.{first_row, page_of}
+use Rattle.chip.specs.Slices.{too_large}
 use Rattle.chip.specs.declared.state.State.{State}
 use Rattle.chip.proofs.Lists.{listed_at}
+use Rattle.repair.specs.Pass.{out_of_order, some_too_large}
 use Rattle.repair.specs.Permits.{writable_pages, writable}
+use Rattle.repair.proofs.Rising.{first_row_lem}
 
 pub right_of : (state : State) (row : ℕ) → row < 0xf40 → writable (writable_pages state) row ≡ may_write state 0 row
 unfolding writable_pages
@@ -25,3 +29,17 @@ right_of state row low =
 pub looked_up : (pages : List Bool) (state : State) (row : ℕ) (may : Bool) → pages ≡ writable_pages state → row < 0xf40 → may ≡ writable pages row
     → may ≡ may_write state 0 row
 looked_up pages state row may is low said = said ∙ ap (λ (p : List Bool). writable p row) is ∙ right_of state row low
+
+-- so some row of a list in order is too large, and may be written, by the pages just where it is by the state
+some_by_pages : (rows : List ℕ) (state : State) (least : ℕ) (list : List ℕ) → out_of_order least list ≡ false
+    → list_any (λ row. writable (writable_pages state) row && too_large rows row) list ≡ some_too_large rows state list
+unfolding some_too_large
+some_by_pages rows state least [] order = refl
+some_by_pages rows state least (row ∷ others) order =
+    let first = first_row_lem least row others order in
+    ap₂ (λ (a b : Bool). a || b) (ap (λ (may : Bool). may && too_large rows row) (right_of state row first.0)) (some_by_pages rows state (row + 1) others first.2)
+
+pub any_too_large : (rows : List ℕ) (pages : List Bool) (state : State) (list : List ℕ) → out_of_order 0 list ≡ false → pages ≡ writable_pages state
+    → list_any (λ row. writable pages row && too_large rows row) list ≡ some_too_large rows state list
+any_too_large rows pages state list order is =
+    ap (λ (p : List Bool). list_any (λ row. writable p row && too_large rows row) list) is ∙ some_by_pages rows state 0 list order

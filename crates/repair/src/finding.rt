@@ -7,7 +7,8 @@ use answer::answers::Condition;
 use decode::reading::read_row;
 
 // Clean; mended, with the bit that was lost and is burnt; worn, which no burning mends; damaged, which does not decode; or not permitted.
-#[derive(Clone, Copy)]
+// The bit is a plain number, and not one below 24 by its type: the crew's command makes of any report entry what it says.
+#[derive(Clone, Copy, Debug, PartialEq, Eq)]
 pub enum Found {
     Clean,
     Mended(u32),
@@ -56,63 +57,56 @@ pub fn found_of(may: bool, held: u32) -> Found
     found_read(held, condition)
 }
 
-// Its kind in a report.
-pub fn kind_of(found: Found) -> u32
-    ensures { result ≡ spec.kind_of found }
-{
-    match found {
-        Found::Clean => 0,
-        Found::Mended(_) => 1,
-        Found::Worn => 2,
-        Found::Damaged => 3,
-        Found::NotPermitted => 4,
+impl Found {
+    // Its kind in a report.
+    pub fn kind(self) -> u32
+        ensures { result ≡ spec.kind_of self }
+    {
+        match self {
+            Found::Clean => 0,
+            Found::Mended(_) => 1,
+            Found::Worn => 2,
+            Found::Damaged => 3,
+            Found::NotPermitted => 4,
+        }
     }
-}
 
-// The bit that is burnt, 0 but for a mended row.
-pub fn bit_of(found: Found) -> u32
-    ensures { result ≡ spec.bit_of found }
-{
-    match found {
-        Found::Clean => 0,
-        Found::Mended(bit) => bit,
-        Found::Worn => 0,
-        Found::Damaged => 0,
-        Found::NotPermitted => 0,
+    // The bit that is burnt, 0 but for a mended row.
+    pub fn bit(self) -> u32
+        ensures { result ≡ spec.bit_of self }
+    {
+        match self {
+            Found::Mended(bit) => bit,
+            _ => 0,
+        }
     }
-}
 
-// Its report entry.
-pub(crate) fn report_entry(found: Found) -> u32
-    requires { spec.bit_of found < 24 }
-    ensures { result ≡ spec.report_entry found }
-{
-    kind_of(found) + 256 * bit_of(found)
-}
-
-// What the row holds then.
-pub(crate) fn left_by(found: Found, held: u32) -> u32
-    requires { spec.bit_of found < 24 }
-    ensures { result ≡ spec.left_by found held }
-{
-    match found {
-        Found::Clean => held,
-        Found::Mended(bit) => held | (1 << bit),
-        Found::Worn => held,
-        Found::Damaged => held,
-        Found::NotPermitted => held,
+    // Its report entry.
+    pub(crate) fn report_entry(self) -> u32
+        requires { spec.bit_of self < 24 }
+        ensures { result ≡ spec.report_entry self }
+    {
+        self.kind() + 256 * self.bit()
     }
-}
 
-// The pulses that it takes.
-pub fn pulses_by(found: Found) -> u32
-    ensures { result ≡ spec.pulses_by found }
-{
-    match found {
-        Found::Clean => 0,
-        Found::Mended(_) => 1,
-        Found::Worn => 0,
-        Found::Damaged => 0,
-        Found::NotPermitted => 0,
+    // What a row that held this holds then.
+    pub(crate) fn left(self, held: u32) -> u32
+        requires { spec.bit_of self < 24 }
+        ensures { result ≡ spec.left_by self held }
+    {
+        match self {
+            Found::Mended(bit) => held | (1 << bit),
+            _ => held,
+        }
+    }
+
+    // The pulses that it takes.
+    pub fn pulses(self) -> u32
+        ensures { result ≡ spec.pulses_by self }
+    {
+        match self {
+            Found::Mended(_) => 1,
+            _ => 0,
+        }
     }
 }

@@ -1,9 +1,9 @@
 // The list of a repair pass, and what it is refused for (request 2026-11).
-ghost use Rattle.std.specs.Prelude.{◌≡◌, false, ◌&&◌};
+ghost use Rattle.std.specs.Prelude.{◌≡◌, ◌&&◌};
+ghost use Rattle.std.specs.List.{list_any};
 ghost use Rattle.chip.specs.Slices.{too_large};
-ghost use Rattle.chip.specs.declared.state.State.{State};
 ghost use Rattle.repair.specs.Pass as spec;
-ghost use Rattle.repair.specs.Permits.{writable_pages};
+ghost use Rattle.repair.specs.Permits.{writable};
 
 use crate::permits::writable;
 use chip::pages::Page;
@@ -15,44 +15,21 @@ pub fn out_of_order(list: &[u32]) -> bool
     ensures { result ≡ spec.out_of_order 0 list.now }
 {
     let mut least: u32 = 0;
-    let mut i = 0;
-    while i < list.len() {
-        let row = list[i];
-        if Page::FIRST_KEPT_ROW <= row {
+    for row in list {
+        if Page::FIRST_KEPT_ROW <= *row {
             return true;
         }
-        if row < least {
+        if *row < least {
             return true;
         }
-        least = row + 1;
-        i += 1;
+        least = *row + 1;
     }
     false
 }
 
-// Whether a row that Secure may or may not write is one that it may, and is too large.
-fn too_large(rows: &[u32], may: bool, row: u32) -> bool
-    ensures { result ≡ (may && too_large rows.now row) }
-{
-    if !may {
-        return false;
-    }
-    MOST_HELD < row_at(rows, row)
-}
-
-// Whether a listed row that Secure may write is too large, of a list in order and by the pages of a state.
+// Whether a listed row is too large, and one that Secure may write by these pages.
 pub(crate) fn some_too_large(rows: &[u32], pages: &[bool], list: &[u32]) -> bool
-    requires { spec.out_of_order 0 list.now ≡ false }
-    ensures { (state : State) → pages.now ≡ writable_pages state
-        → result ≡ spec.some_too_large rows.now state list.now }
+    ensures { result ≡ list_any (λ row. writable pages.now row && too_large rows.now row) list.now }
 {
-    let mut i = 0;
-    while i < list.len() {
-        let row = list[i];
-        if too_large(rows, writable(pages, row), row) {
-            return true;
-        }
-        i += 1;
-    }
-    false
+    list.iter().any(|row| writable(pages, *row) && MOST_HELD < row_at(rows, *row))
 }

@@ -1,5 +1,6 @@
 // The repair pass over listed rows (request 2026-11).
 ghost use Rattle.std.specs.Prelude.{◌≡◌, false, ◌≤◌, length, set};
+ghost use Rattle.answer.specs.Refusals.{number_of};
 ghost use Rattle.chip.specs.Slices.{row_at};
 ghost use Rattle.chip.specs.Tallies.{◌gains◌, with_gain, with_gains};
 ghost use Rattle.repair.specs.Finding.{found_of, left_by, pulses_by};
@@ -7,33 +8,35 @@ ghost use Rattle.chip.specs.declared.state.State.{State as Latched};
 ghost use Rattle.repair.specs.Pass as spec;
 ghost use Rattle.repair.specs.Permits.{writable_pages};
 
-use crate::finding::{Found, found_of, left_by, pulses_by, report_entry};
+use crate::finding::{Found, found_of};
 use crate::list::{out_of_order, some_too_large};
 use crate::permits::{writable, writable_pages};
-use answer::answers::{refused, spent};
+use answer::answers::spent;
+use answer::refusals::Refusal;
 use burn::burning::{beside, burn_row};
 use chip::pages::Page;
 use chip::slices::row_at;
 use chip::state::{Outcome, State};
+use row::writing::Burnt;
 
-// The number of a pass over a list, by the pages of a state and the length of a report.
-fn repair_number(rows: &[u32], pages: &[bool], list: &[u32], report: &[u32]) -> u32
+// Whether a pass over a list is refused, by the pages of a state and the length of a report.
+fn check_repair(rows: &[u32], pages: &[bool], list: &[u32], report: &[u32]) -> Result<(), Refusal>
     ensures { (latched : Latched) → pages.now ≡ writable_pages latched
-        → result ≡ spec.repair_number rows.now latched list.now report.now }
+        → number_of result ≡ spec.repair_number rows.now latched list.now report.now }
 {
     if rows.len() != Page::CHIP_ROWS {
-        return 1;
+        return Err(Refusal::NotWhole);
     }
     if out_of_order(list) {
-        return 11;
+        return Err(Refusal::OutOfPlace);
     }
     if report.len() < list.len() {
-        return 12;
+        return Err(Refusal::NoRoom);
     }
     if some_too_large(rows, pages, list) {
-        return 3;
+        return Err(Refusal::TooLarge);
     }
-    0
+    Ok(())
 }
 
 // Looks at a row that Secure may or may not write, burns the bit that it lost, and counts it. The page of a row that gains none is named too.
@@ -46,8 +49,11 @@ fn repair_row(rows: &mut [u32], tallies: &mut [u16], row: u32, may: bool) -> Fou
 {
     let held = row_at(rows, row);
     let found = found_of(may, held);
-    let left = left_by(found, held);
-    burn_row(rows, tallies, row, left, pulses_by(found));
+    let burnt = Burnt {
+        row: found.left(held),
+        pulses: found.pulses(),
+    };
+    burn_row(rows, tallies, row, burnt);
     found
 }
 
@@ -69,13 +75,10 @@ fn all_repaired(
         × (report.new ≡ spec.report_from report.old 0 looks)) }
 {
     let mut pulses: u32 = 0;
-    let mut i = 0;
-    while i < list.len() {
-        let row = list[i];
-        let found = repair_row(rows, tallies, row, writable(pages, row));
-        report[i] = report_entry(found);
-        pulses += pulses_by(found);
-        i += 1;
+    for (i, row) in list.iter().enumerate() {
+        let found = repair_row(rows, tallies, *row, writable(pages, *row));
+        report[i] = found.report_entry();
+        pulses += found.pulses();
     }
     pulses
 }
@@ -87,13 +90,13 @@ pub fn repair(rows: &mut [u32], state: State, list: &[u32], report: &mut [u32]) 
         × (report.new ≡ (spec.repair rows.old state list.now report.old).report) }
 {
     let pages = writable_pages(state);
-    let number = repair_number(rows, &pages, list, report);
-    if number != 0 {
-        let answer = refused(number);
-        return Outcome { answer, state };
+    if let Err(refusal) = check_repair(rows, &pages, list, report) {
+        return Outcome {
+            answer: refusal.into(),
+            state,
+        };
     }
     let mut tallies = state.tallies;
     let pulses = all_repaired(rows, &mut tallies, &pages, list, report);
-    let answer = spent(0, pulses);
-    beside(answer, state, tallies)
+    beside(spent(0, pulses), state, tallies)
 }

@@ -13,10 +13,8 @@ pub(crate) fn writable_pages(state: State) -> [bool; 64]
     ensures { result ≡ spec.writable_pages state }
 {
     let mut pages = [false; 64];
-    let mut page: u32 = 0;
-    while page < 64 {
+    for page in 0..64 {
         pages[page as usize] = may_write(state, SECURE, Page::ROWS * page);
-        page += 1;
     }
     pages
 }
@@ -25,9 +23,6 @@ pub(crate) fn writable_pages(state: State) -> [bool; 64]
 pub(crate) fn writable(pages: &[bool], row: u32) -> bool
     ensures { result ≡ spec.writable pages.now row }
 {
-    let at = (row / Page::ROWS) as usize;
-    if pages.len() <= at {
-        return false;
-    }
-    pages[at]
+    let page = row / Page::ROWS;
+    pages.get(page as usize).copied().unwrap_or(false)
 }
