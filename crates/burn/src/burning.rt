@@ -9,7 +9,8 @@ use chip::state::{Outcome, State, Tallies};
 use chip::tallies::gain;
 use row::writing::Burnt;
 
-// Burns a row, and counts the bits that it gained.
+// Burns a row, and counts the bits that it gained. The rows and the tallies go in each by itself, here and above: a struct that lends both for a
+// while is no plainer, since its contracts would speak of what each part held and holds.
 pub fn burn_row(rows: &mut [u32], tallies: &mut [u16], row: u32, burnt: Burnt)
     ensures { (rows.new ≡ set rows.old row burnt.row)
         × (tallies.new ≡ with_gain tallies.old (row gains burnt.pulses)) }

@@ -8,6 +8,7 @@ use answer::refusals::Refusal;
 use chip::callers::{BOOTLOADER, LAST_CALLER, LAST_DOMAIN, NONSECURE, SECURE, shown_level};
 use chip::pages::Page;
 use chip::state::{Outcome, State};
+use std::array;
 
 // Callers, domains, pages and levels are numbers here, since any number may come in, from C too, and each call says which it refuses.
 
@@ -115,11 +116,7 @@ fn key_words(key: &[u8]) -> [u16; 8]
     requires { length key.now ≡ 16 }
     ensures { result ≡ spec.key_words key.now }
 {
-    let mut words = [0u16; 8];
-    for i in 0..8 {
-        words[i] = key[2 * i] as u16 + 256 * (key[2 * i + 1] as u16);
-    }
-    words
+    array::from_fn(|i| key[2 * i] as u16 + 256 * (key[2 * i + 1] as u16))
 }
 
 // Enters a key, against which the registered ones are compared until a reset or another one is entered.

@@ -1,7 +1,7 @@
 -- A list in order: its rows rise, and each is below 0xf40.
 -- Assumes nothing.
 use Prim.Native.Nat.{ℕ, zero, suc, ◌+◌, ◌≤◌, ◌<◌}
-use mathlib.Core.Bool.{true, false, ◌&&◌, ◌||◌}
+use mathlib.Core.Bool.{true, false, ◌||◌}
 use mathlib.Core.List.{List, [], ◌∷◌}
 use mathlib.Core.Path.{◌≡◌, ap, ◌∙◌}
 use native.Mathlib.Nat.{le_of_suc-le-suc, not-suc-le-zero}
@@ -12,10 +12,7 @@ use lib.Dec.{ltb, leb}
 use lib.ListN.{length, get_or, drop}
 use lib.Seq.{drop-cons, drop-length}
 use Rattle.answer.proofs.Ladders.{neither}
-use Rattle.permit.specs.Permission.{may_write}
-use Rattle.chip.specs.Slices.{too_large}
-use Rattle.chip.specs.declared.state.State.{State}
-use Rattle.repair.specs.Pass.{out_of_order, some_too_large}
+use Rattle.repair.specs.Pass.{out_of_order}
 
 -- the first row of a list in order, and the others
 pub first_row_lem : (least row : ℕ) (others : List ℕ) → out_of_order least (row ∷ others) ≡ false
@@ -73,16 +70,3 @@ module _ (list : List ℕ) (least i : ℕ) (h : i < length list) where
   pub order_next : row < 0xf40 → least ≤ row → out_of_order least (drop i list) ≡ out_of_order (row + 1) (drop (i + 1) list)
   unfolding out_of_order
   order_next low above = rw (next_row list i h, lt-leb 0xf40 row low, le-ltb row least above)
-
-module _ (rows : List ℕ) (state : State) (list : List ℕ) (i : ℕ) (h : i < length list) where
-  abbrev listed_row_lem : ℕ
-  listed_row_lem = get_or list i 0
-
-  pub large_stops : (may_write state 0 listed_row_lem && too_large rows listed_row_lem) ≡ true → some_too_large rows state (drop i list) ≡ true
-  unfolding some_too_large
-  large_stops large = rw (next_row list i h, large)
-
-  pub large_next : (may_write state 0 listed_row_lem && too_large rows listed_row_lem) ≡ false
-      → some_too_large rows state (drop i list) ≡ some_too_large rows state (drop (i + 1) list)
-  unfolding some_too_large
-  large_next fits = rw (next_row list i h, fits)

@@ -3,7 +3,7 @@
 use Prim.Native.Nat.{ℕ, ◌+◌, ◌*◌, ◌/◌, ◌<◌}
 use mathlib.Core.Bool.{Bool, false, ◌&&◌, ◌||◌}
 use mathlib.Core.List.{List, [], ◌∷◌}
-use mathlib.Core.Path.{◌≡◌, refl, ap, ap₂, ◌∙◌}
+use mathlib.Core.Path.{◌≡◌, refl, sym, ap, ap₂, ◌∙◌}
 use native.Mathlib.Omega.{arith}
 use borrow.Author.Tests.{eq-eqb}
 use Rattle.std.specs.List.{list_any}
@@ -39,7 +39,10 @@ some_by_pages rows state least (row ∷ others) order =
     let first = first_row_lem least row others order in
     ap₂ (λ (a b : Bool). a || b) (ap (λ (may : Bool). may && too_large rows row) (right_of state row first.0)) (some_by_pages rows state (row + 1) others first.2)
 
-pub any_too_large : (rows : List ℕ) (pages : List Bool) (state : State) (list : List ℕ) → out_of_order 0 list ≡ false → pages ≡ writable_pages state
-    → list_any (λ row. writable pages row && too_large rows row) list ≡ some_too_large rows state list
-any_too_large rows pages state list order is =
-    ap (λ (p : List Bool). list_any (λ row. writable p row && too_large rows row) list) is ∙ some_by_pages rows state 0 list order
+-- and what was looked up of the whole list
+pub said_of_list : (rows : List ℕ) (pages : List Bool) (state : State) (list : List ℕ) (disordered said t : Bool)
+    → disordered ≡ out_of_order 0 list → disordered ≡ false → pages ≡ writable_pages state
+    → said ≡ list_any (λ row. writable pages row && too_large rows row) list → said ≡ t → some_too_large rows state list ≡ t
+said_of_list rows pages state list disordered said t order in_order is by_pages told =
+    sym (some_by_pages rows state 0 list (sym order ∙ in_order))
+    ∙ sym (by_pages ∙ ap (λ (p : List Bool). list_any (λ row. writable p row && too_large rows row) list) is) ∙ told

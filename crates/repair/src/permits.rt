@@ -7,16 +7,13 @@ use chip::callers::SECURE;
 use chip::pages::Page;
 use chip::state::State;
 use permit::permission::may_write;
+use std::array;
 
 // Of each page, whether Secure may write its rows.
 pub(crate) fn writable_pages(state: State) -> [bool; 64]
     ensures { result ≡ spec.writable_pages state }
 {
-    let mut pages = [false; 64];
-    for page in 0..64 {
-        pages[page as usize] = may_write(state, SECURE, Page::ROWS * page);
-    }
-    pages
+    array::from_fn(|page| may_write(state, SECURE, Page::ROWS * page as u32))
 }
 
 // Whether that is so of a row's page.
