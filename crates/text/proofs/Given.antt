@@ -8,7 +8,7 @@ use native.Mathlib.Nat.{zero-add}
 use native.Mathlib.Omega.{arith}
 use lib.ListN.{length, set, length-append}
 use lib.Seq.{set_comm}
-use Rattle.std.specs.Prelude.{if◌then◌else◌}
+use Rattle.std.specs.Prelude.{Option, Some, None, if◌then◌else◌}
 use Rattle.answer.proofs.Choices.{both_ways}
 use Rattle.chip.specs.Lists.{same}
 use Rattle.form.specs.Entries as form
@@ -18,13 +18,9 @@ use Rattle.form.proofs.WholeJob.{AllFit, job_entries}
 use Rattle.text.specs.Lines.{is_cut, number_at, ecc, raw, entry_of, with_value, with_kind, with_row, has_word, line_of}
 use Rattle.typed.specs.Words.{word_of}
 use Rattle.text.specs.Versions.{version, one, two, version_named, said_by}
-use Rattle.text.specs.Jobs.{begun, passed, stopped, next_of, read_by, entry_by, goes_on, read_from, entries_from, most_lines, reading_of, entries_of}
-use Rattle.typed.specs.declared.numbers.Number.{Number}
-use Rattle.typed.specs.declared.numbers.Number.TheVariants.{Is, Not}
-use Rattle.text.specs.declared.entries.Line.{Line}
-use Rattle.text.specs.declared.entries.Line.TheVariants.{Empty, Version, Entry, Wrong}
-use Rattle.text.specs.declared.entries.Why.TheVariants as why
-use Rattle.text.specs.declared.jobs.Reading.{Reading}
+use Rattle.text.specs.Jobs.{Reading, begun, passed, stopped, next_of, read_by, entry_by, goes_on, read_from, entries_from, most_lines, reading_of, entries_of}
+use Rattle.text.specs.Line.{Line, Empty, Version, Entry, Wrong}
+use Rattle.text.specs.Whys as why
 
 -- ---- as many entries as are counted
 
@@ -64,10 +60,10 @@ unfolding entry_of AllFit
 fit_entry row kind value known =
     both_ways Fit (is_cut kind value) (Wrong 2 why.RawValue) (Entry _) tt ((omega arith, omega arith, omega arith), tt)
 
-fit_value : (row kind : ℕ) (number : Number) → kind ≤ 1 → Fit (with_value row kind number)
+fit_value : (row kind : ℕ) (number : Option ℕ) → kind ≤ 1 → Fit (with_value row kind number)
 unfolding AllFit
-fit_value row kind Not known = tt
-fit_value row kind (Is value) known = fit_entry row kind value known
+fit_value row kind None known = tt
+fit_value row kind (Some value) known = fit_entry row kind value known
 
 fit_kind : (line : List ℕ) (row : ℕ) → Fit (with_kind line row)
 unfolding with_kind AllFit
@@ -78,10 +74,10 @@ fit_kind line row =
     (fit_value row 1 (number_at line 2) (omega arith))
     tt)
 
-fit_row : (line : List ℕ) (number : Number) → Fit (with_row line number)
+fit_row : (line : List ℕ) (number : Option ℕ) → Fit (with_row line number)
 unfolding AllFit
-fit_row line Not = tt
-fit_row line (Is row) = fit_kind line row
+fit_row line None = tt
+fit_row line (Some row) = fit_kind line row
 
 fit_line : (line : List ℕ) → Fit (line_of line)
 unfolding line_of AllFit

@@ -10,11 +10,8 @@ use native.Mathlib.Omega.{arith}
 use lib.ListN.{length, set, take, drop, length-append}
 use lib.Seq.{sets, sets-eq, take-append_seam}
 use Rattle.std.specs.Prelude.{if◌then◌else◌}
-use Rattle.text.specs.Jobs.{begun, passed, stopped, goes_on, most_lines}
-use Rattle.text.specs.Lists.{next_listed, list_by, row_by, list_from, rows_from, list_reading, rows_of, with_rows}
-use Rattle.text.specs.declared.lists.Listed.{Listed}
-use Rattle.text.specs.declared.lists.Listed.TheVariants.{Empty, Row, Wrong}
-use Rattle.text.specs.declared.jobs.Reading.{Reading}
+use Rattle.text.specs.Jobs.{Reading, begun, passed, stopped, goes_on, most_lines}
+use Rattle.text.specs.Lists.{Listed, Empty, Row, Wrong, next_listed, list_by, row_by, list_from, rows_from, list_reading, rows_of, with_rows}
 
 count_by : (text : List ℕ) (reading : Reading) (line : Listed) → (list_by text reading line).count ≡ reading.count + length (row_by line)
 unfolding passed stopped

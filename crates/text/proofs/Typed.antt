@@ -7,9 +7,9 @@ use Rattle.chip.specs.Lists.{listed, same}
 use Rattle.typed.specs.Numbers.{digit_of, digits_below, value_with, number_in, hexadecimal, number_of, key_of}
 use Rattle.typed.specs.Words.{up_to, place_of, line_at, next_line, word_from, word_at}
 use Rattle.text.specs.Lines.{entry_of, with_kind, line_of}
-use Rattle.typed.specs.declared.numbers.Number.TheVariants.{Is, Not}
-use Rattle.text.specs.declared.entries.Line.TheVariants.{Entry, Wrong}
-use Rattle.text.specs.declared.entries.Why.TheVariants as why
+use Rattle.std.specs.Prelude.{Some, None}
+use Rattle.text.specs.Line.{Entry, Wrong}
+use Rattle.text.specs.Whys as why
 
 -- two lines: "0x0c0 ecc 320 # a" and "1 RAW 3"
 abbrev pub lines : List ℕ
@@ -24,15 +24,15 @@ unfolding line_of with_kind entry_of word_at word_from place_of up_to number_in 
 second_line = refl
 
 -- "0XfF", "4294967295" and "4294967296"
-pub hexadecimal_number : number_of (48 ∷ 88 ∷ 102 ∷ 70 ∷ []) ≡ Is 255
+pub hexadecimal_number : number_of (48 ∷ 88 ∷ 102 ∷ 70 ∷ []) ≡ Some 255
 unfolding number_in hexadecimal digits_below value_with digit_of
 hexadecimal_number = refl
 
-pub largest_number : number_of (52 ∷ 50 ∷ 57 ∷ 52 ∷ 57 ∷ 54 ∷ 55 ∷ 50 ∷ 57 ∷ 53 ∷ []) ≡ Is 4294967295
+pub largest_number : number_of (52 ∷ 50 ∷ 57 ∷ 52 ∷ 57 ∷ 54 ∷ 55 ∷ 50 ∷ 57 ∷ 53 ∷ []) ≡ Some 4294967295
 unfolding number_in hexadecimal digits_below value_with digit_of
 largest_number = refl
 
-pub no_number : number_of (52 ∷ 50 ∷ 57 ∷ 52 ∷ 57 ∷ 54 ∷ 55 ∷ 50 ∷ 57 ∷ 54 ∷ []) ≡ Not
+pub no_number : number_of (52 ∷ 50 ∷ 57 ∷ 52 ∷ 57 ∷ 54 ∷ 55 ∷ 50 ∷ 57 ∷ 54 ∷ []) ≡ None
 unfolding number_in hexadecimal digits_below value_with digit_of
 no_number = refl
 

@@ -4,11 +4,22 @@ use Rattle.std.specs.Prelude.{if◌then◌else◌}
 use Rattle.form.specs.declared.entries.Entry as form
 use Rattle.text.specs.Versions.{said_by}
 use Rattle.typed.specs.Words.{line_at, next_line}
-use Rattle.text.specs.declared.entries.Line.{Line}
-use Rattle.text.specs.declared.entries.Line.TheVariants.{Empty, Version, Entry, Wrong}
-use Rattle.text.specs.declared.entries.Why.{Why}
-use Rattle.text.specs.declared.entries.Why.TheVariants as why
-use Rattle.text.specs.declared.jobs.Reading.{Reading}
+use Rattle.text.specs.Line.{Line, Empty, Version, Entry, Wrong}
+use Rattle.text.specs.Whys.{Why}
+use Rattle.text.specs.Whys as why
+
+-- how far a text is read: the line that was read last, where it and the next begin, whether no line has said anything yet, the version and
+-- the entries so far, and what is wrong with which word of the line. Once `going` is false, nothing more is read
+pub record Reading : Type 0 where
+  pub line : ℕ
+  pub start : ℕ
+  pub next : ℕ
+  pub first : Bool
+  pub version : ℕ
+  pub count : ℕ
+  pub going : Bool
+  pub word : ℕ
+  pub why : Why
 
 -- nothing is read yet: the version is 1 where no line says another
 abbrev pub begun : Reading

@@ -1,4 +1,9 @@
 pub mod Jobs
+pub mod Line
 pub mod Lines
 pub mod Lists
+pub mod Readings
+pub mod Said
+pub mod Steps
 pub mod Versions
+pub mod Whys

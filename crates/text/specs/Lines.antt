@@ -1,21 +1,18 @@
 -- What a line of a job's text says of an entry: nothing, the entry, or that one of its words, counted from 0, is wrong.
-use Rattle.std.specs.Prelude.{ℕ, min, Bool, not, ◌&&◌, List, [], ◌∷◌, eqb, ltb}
+use Rattle.std.specs.Prelude.{ℕ, min, Bool, not, ◌&&◌, List, [], ◌∷◌, eqb, ltb, Option, Some, None}
 use Rattle.std.specs.Prelude.{if◌then◌else◌}
 use Rattle.chip.specs.Lists.{same}
 use Rattle.typed.specs.Numbers.{number_of}
 use Rattle.typed.specs.Words.{word_at, word_of}
-use Rattle.typed.specs.declared.numbers.Number.{Number}
-use Rattle.typed.specs.declared.numbers.Number.TheVariants.{Is, Not}
-use Rattle.text.specs.declared.entries.Line.{Line}
-use Rattle.text.specs.declared.entries.Line.TheVariants.{Empty, Entry, Wrong}
-use Rattle.text.specs.declared.entries.Why.TheVariants as why
+use Rattle.text.specs.Line.{Line, Empty, Entry, Wrong}
+use Rattle.text.specs.Whys as why
 
 -- a line has a word, counted from 0
 abbrev pub has_word : List ℕ → ℕ → Bool
 has_word line n = ltb (word_at line n).from (word_at line n).to
 
 -- the number that a word spells
-abbrev pub number_at : List ℕ → ℕ → Number
+abbrev pub number_at : List ℕ → ℕ → Option ℕ
 number_at line n = number_of (word_of line n)
 
 -- the names of the kinds, "ecc" and "raw"
@@ -37,9 +34,9 @@ entry_of row kind value =
     else Entry (record { row = min row 0xffff; kind = kind; value = min value 0xffffff })
 
 -- a row and a kind, with the value that a word spells
-abbrev pub with_value : ℕ → ℕ → Number → Line
-with_value row kind Not = Wrong 2 why.Number
-with_value row kind (Is value) = entry_of row kind value
+abbrev pub with_value : ℕ → ℕ → Option ℕ → Line
+with_value row kind None = Wrong 2 why.Number
+with_value row kind (Some value) = entry_of row kind value
 
 -- a row, with the kind that the second word names and the value that the third spells: ecc is 0, raw is 1
 unfoldable pub with_kind : List ℕ → ℕ → Line
@@ -49,9 +46,9 @@ with_kind line row =
     else Wrong 1 why.Kind
 
 -- the row that a word spells, with the words after it
-abbrev pub with_row : List ℕ → Number → Line
-with_row line Not = Wrong 0 why.Number
-with_row line (Is row) = with_kind line row
+abbrev pub with_row : List ℕ → Option ℕ → Line
+with_row line None = Wrong 0 why.Number
+with_row line (Some row) = with_kind line row
 
 -- a line has three words or none: a row, a kind and a value
 unfoldable pub line_of : List ℕ → Line

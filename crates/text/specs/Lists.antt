@@ -1,20 +1,21 @@
 -- A list of rows from a text, line by line (request 2026-11). A line has a row alone, or nothing; the rest is as in a job's text.
-use Rattle.std.specs.Prelude.{ℕ, zero, suc, ◌+◌, not, List, [], ◌∷◌, ◌++◌, set}
+use Rattle.std.specs.Prelude.{ℕ, zero, suc, ◌+◌, not, List, [], ◌∷◌, ◌++◌, set, Option, Some, None}
 use Rattle.std.specs.Prelude.{if◌then◌else◌}
 use Rattle.typed.specs.Words.{line_at}
-use Rattle.typed.specs.declared.numbers.Number.{Number}
-use Rattle.typed.specs.declared.numbers.Number.TheVariants.{Is, Not}
-use Rattle.text.specs.Jobs.{begun, passed, stopped, goes_on, most_lines}
+use Rattle.text.specs.Jobs.{Reading, begun, passed, stopped, goes_on, most_lines}
 use Rattle.text.specs.Lines.{has_word, number_at}
-use Rattle.text.specs.declared.entries.Why.TheVariants as why
-use Rattle.text.specs.declared.jobs.Reading.{Reading}
-use Rattle.text.specs.declared.lists.Listed.{Listed}
-use Rattle.text.specs.declared.lists.Listed.TheVariants.{Empty, Row, Wrong}
+use Rattle.text.specs.Whys as why
+
+-- what a line says: nothing, a row, or that one of its words, counted from 0, is wrong
+pub data Listed : Type 0 where
+  Empty : Listed
+  Row : (row : ℕ) → Listed
+  Wrong : (word : ℕ) (why : why.Why) → Listed
 
 -- the row that a word spells
-abbrev pub row_said : Number → Listed
-row_said Not = Wrong 0 why.Number
-row_said (Is row) = Row row
+abbrev pub row_said : Option ℕ → Listed
+row_said None = Wrong 0 why.Number
+row_said (Some row) = Row row
 
 -- what a line says
 unfoldable pub listed_by : List ℕ → Listed

@@ -4,9 +4,8 @@ use Rattle.std.specs.Prelude.{if◌then◌else◌}
 use Rattle.chip.specs.Lists.{same}
 use Rattle.typed.specs.Words.{word_of}
 use Rattle.text.specs.Lines.{has_word, line_of}
-use Rattle.text.specs.declared.entries.Line.{Line}
-use Rattle.text.specs.declared.entries.Line.TheVariants.{Version, Wrong}
-use Rattle.text.specs.declared.entries.Why.TheVariants as why
+use Rattle.text.specs.Line.{Line, Version, Wrong}
+use Rattle.text.specs.Whys as why
 
 -- the word "version", and the names of the versions, "1" and "2"
 abbrev pub version : List ℕ

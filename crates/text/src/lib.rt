@@ -4,4 +4,5 @@
 pub mod entries;
 pub mod jobs;
 pub mod lists;
+pub mod reading;
 pub mod versions;

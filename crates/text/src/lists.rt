@@ -1,77 +1,61 @@
 // A list of rows from a text, a row on each line, as `0x0c0` (request 2026-11). Its lines, comments and numbers are those of a job's text.
-ghost use Rattle.std.specs.Prelude.{◌≡◌, ◌<◌};
-ghost use Rattle.text.specs.Lines.{number_at};
+ghost use Rattle.std.specs.Prelude.{◌≡◌};
 ghost use Rattle.text.specs.Lists as spec;
+ghost use Rattle.text.specs.Readings.{read_as};
+ghost use Rattle.text.specs.Said.{row_said_as};
+ghost use Rattle.text.specs.Steps.{list_line, list_row};
 
-use crate::entries::{Why, has, number};
-use crate::jobs::{LINES, Reading, begun, goes_on, passed, stopped};
+use crate::entries::{Why, WrongWord, has, number, wrong};
+use crate::reading;
+use crate::reading::{Kept, Reading, Wrong};
 use chip::slices::put;
-use typed::numbers::Number;
 use typed::words::line_at;
 
-// What a line says: nothing, a row, or that one of its words, counted from 0, is wrong.
-#[derive(Clone, Copy)]
-enum Listed {
-    Empty,
-    Row(u32),
-    Wrong(u32, Why),
-}
-
-// The row that the first word spells.
-fn spelt(line: &[u8]) -> Listed
-    ensures { result ≡ spec.row_said (number_at line.now 0) }
-{
-    match number(line, 0) {
-        Number::Is(row) => Listed::Row(row),
-        Number::Not => Listed::Wrong(0, Why::Number),
-    }
-}
-
 // A line has a row alone, or nothing.
-fn said_by(line: &[u8]) -> Listed
-    ensures { result ≡ spec.listed_by line.now }
+#[tactic(auto, unfolding(crate::specs::Lists::listed_by))]
+fn said_by(line: &[u8]) -> Result<Option<u32>, WrongWord>
+    ensures { row_said_as result ≡ spec.listed_by line.now }
 {
     if !has(line, 0) {
-        return Listed::Empty;
+        return Ok(None);
     }
     if has(line, 1) {
-        return Listed::Wrong(1, Why::Extra);
+        return wrong(1, Why::Extra);
     }
-    spelt(line)
+    match number(line, 0) {
+        Some(row) => Ok(Some(row)),
+        None => wrong(0, Why::Number),
+    }
 }
 
-// One line more. What a job's text says of a version, a list leaves as it was.
-fn step(text: &[u8], list: &mut [u32], reading: Reading) -> Reading
-    requires line_bound { reading.line < 65537 }
-    requires count_bound { reading.count < 65537 }
-    ensures value { result ≡ spec.list_by text.now reading (spec.next_listed text.now reading) }
-    ensures list_after { list.new ≡ spec.with_rows list.old reading.count (spec.row_by (spec.next_listed text.now reading)) }
-{
-    let start = reading.next;
-    let count = reading.count;
-    match said_by(line_at(text, start)) {
-        Listed::Empty => passed(text, reading, reading.first, reading.version, count),
-        Listed::Row(row) => {
-            put(list, count, row);
-            passed(text, reading, reading.first, reading.version, count + 1)
+// The rows of a list. What a job's text says of a version, a list leaves as it was.
+impl Kept for u32 {
+    ghost by = { λ text reading. spec.list_by text reading (spec.next_listed text reading) };
+
+    ghost puts = { λ text reading list. spec.with_rows list reading.count (spec.row_by (spec.next_listed text reading)) };
+
+    #[tactic(auto, unfolding(crate::specs::Lists::with_rows))]
+    fn step(text: &[u8], list: &mut [u32], reading: Reading) -> Result<Reading, Wrong> {
+        let count = reading.count;
+        match said_by(line_at(text, reading.next)) {
+            Ok(None) => Ok(reading.passed(text, reading.first, reading.version, count)),
+            Ok(Some(row)) => {
+                put(list, count, row);
+                Ok(reading.passed(text, reading.first, reading.version, count + 1))
+            }
+            Err(wrong) => Err(reading.stopped(wrong)),
         }
-        Listed::Wrong(word, why) => stopped(reading, word, why),
     }
+
+    ghost one_line = { λ text reading. list_line text reading (spec.next_listed text reading) };
+
+    ghost one_more = { λ text reading. list_row text reading (spec.next_listed text reading) };
 }
 
 // Reads a text as far as so many rows, its end or a wrong line, and puts its rows into a list.
-pub fn read(text: &[u8], list: &mut [u32], most: u32) -> Reading
-    ensures value { result ≡ spec.list_reading text.now most }
+pub fn read(text: &[u8], list: &mut [u32], most: u32) -> Result<Reading, Wrong>
+    ensures value { read_as result ≡ spec.list_reading text.now most }
     ensures list_after { list.new ≡ spec.with_rows list.old 0 (spec.rows_of text.now most) }
 {
-    let mut reading = begun();
-    let mut turn = 0;
-    while turn < LINES {
-        if !goes_on(text, most, reading) {
-            return reading;
-        }
-        reading = step(text, list, reading);
-        turn += 1;
-    }
-    reading
+    reading::read(text, list, most)
 }

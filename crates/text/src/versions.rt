@@ -1,38 +1,49 @@
 // The line of a text that says the version of its job, `version 1` or `version 2`, before all entries.
 ghost use Rattle.std.specs.Prelude.{◌≡◌};
+ghost use Rattle.text.specs.Said.{line_said};
 ghost use Rattle.text.specs.Versions as spec;
 
 use crate::entries;
-use crate::entries::{Line, Why, has, is};
+use crate::entries::{Why, WrongWord, has, is, wrong};
+use form::entries::Entry;
+
+// What a line of a job's text says, where it says anything.
+#[derive(Clone, Copy, Debug, PartialEq, Eq)]
+pub enum Said {
+    Version(u32),
+    Entry(Entry),
+}
 
 // The version that the second word names.
-fn named(line: &[u8]) -> Line
-    ensures { result ≡ spec.version_named line.now }
+#[tactic(auto, unfolding(crate::specs::Versions::version_named))]
+fn named(line: &[u8]) -> Result<Option<Said>, WrongWord>
+    ensures { line_said result ≡ spec.version_named line.now }
 {
     if is(line, 1, b"1") {
-        return Line::Version(1);
+        return Ok(Some(Said::Version(1)));
     }
     if is(line, 1, b"2") {
-        return Line::Version(2);
+        return Ok(Some(Said::Version(2)));
     }
-    Line::Wrong(1, Why::Version)
+    wrong(1, Why::Version)
 }
 
 // What a line says, which is the first that says anything or a later one.
-pub fn read(line: &[u8], first: bool) -> Line
-    ensures { result ≡ spec.said_by first line.now }
+#[tactic(auto, unfolding(crate::specs::Versions::said_by))]
+pub fn read(line: &[u8], first: bool) -> Result<Option<Said>, WrongWord>
+    ensures { line_said result ≡ spec.said_by first line.now }
 {
     if !is(line, 0, b"version") {
-        return entries::read(line);
+        return Ok(entries::read(line)?.map(Said::Entry));
     }
     if !first {
-        return Line::Wrong(0, Why::NotFirst);
+        return wrong(0, Why::NotFirst);
     }
     if !has(line, 1) {
-        return Line::Wrong(0, Why::Version);
+        return wrong(0, Why::Version);
     }
     if has(line, 2) {
-        return Line::Wrong(2, Why::Version);
+        return wrong(2, Why::Version);
     }
     named(line)
 }
