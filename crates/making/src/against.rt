@@ -4,87 +4,74 @@ use board::reset_refusals::entry_lines;
 use chip::slices::row_at;
 use latch::resetting::all_in_range;
 use row::coding::flipped;
-use screen::print;
-use wording::refusals::{number_and_words, of_row};
-use wording::row_names;
-
-// ", row 0xf87 PAGE3_LOCK1"
-fn of_named_row(row: u32) {
-    of_row(row);
-    row_names::after(1, row);
-    print::end();
-}
-
-// "   it holds 0x060140, and 0x060040 is wanted"
-fn both(present: u32, wanted: u32) {
-    print::bits_after(b"   it holds ", present);
-    print::bits_after(b", and ", wanted);
-    print::text(b" is wanted");
-}
+use screen::shown::{Bits, Counted};
+use std::io;
+use wording::refusals::{Numbered, OfRow};
+use wording::row_names::After;
 
 // "3: an entry that this call uses is above 16,777,215: the wanted image, row 0x005", and what that says of the image.
-fn too_large(present: &[u32], wanted: &[u32]) {
-    number_and_words(3);
+fn too_large(rt: &HostRuntime, present: &[u32], wanted: &[u32]) -> io::Result<()> {
+    let number = Numbered(3);
     if all_in_range(present) {
-        print::text(b": the wanted image");
-        entry_lines(wanted);
-        return;
+        print!(rt; "{number}: the wanted image")?;
+        return entry_lines(rt, wanted);
     }
-    print::text(b": the present image");
-    entry_lines(present);
+    print!(rt; "{number}: the present image")?;
+    entry_lines(rt, present)
 }
 
-fn lost(first: Found, present: u32, wanted: u32) {
-    number_and_words(13);
-    of_named_row(first.row);
-    both(present, wanted);
-    print::bits_after(b": ", present & flipped(wanted));
-    print::text(b" would be lost\n   ");
-    print::counted(first.rows, b"row");
-    print::line(b" would lose bits");
+// ", row 0xf87 PAGE3_LOCK1", and below it "   it holds 0x060140, and 0x060040 is wanted".
+fn both(rt: &HostRuntime, row: u32, present: u32, wanted: u32) -> io::Result<()> {
+    println!(rt; "{}{}", OfRow(row), After(1, row))?;
+    print!(rt;
+        "   it holds {}, and {} is wanted",
+        Bits(present),
+        Bits(wanted)
+    )
 }
 
-fn kept(first: Found, present: u32, wanted: u32) {
-    number_and_words(11);
-    print::text(b": from 0xf40 up");
-    of_named_row(first.row);
-    both(present, wanted);
-    print::text(b"\n   ");
-    print::counted(first.rows, b"row");
-    if first.rows == 1 {
-        print::line(b" from 0xf40 up differs");
-        return;
-    }
-    print::line(b" from 0xf40 up differ");
+fn lost(rt: &HostRuntime, first: Found, present: u32, wanted: u32) -> io::Result<()> {
+    print!(rt; "{}", Numbered(13))?;
+    both(rt, first.row, present, wanted)?;
+    println!(rt; ": {} would be lost", Bits(present & flipped(wanted)))?;
+    println!(rt; "   {} would lose bits", Counted(first.rows, "row"))
+}
+
+fn kept(rt: &HostRuntime, first: Found, present: u32, wanted: u32) -> io::Result<()> {
+    print!(rt; "{}: from 0xf40 up", Numbered(11))?;
+    both(rt, first.row, present, wanted)?;
+    let verb = if first.rows == 1 { "differs" } else { "differ" };
+    println!(rt; "\n   {} from 0xf40 up {verb}", Counted(first.rows, "row"))
 }
 
 // "14: more than 512 rows differ: 513 do"
-fn many(rows: u32) {
-    number_and_words(14);
-    print::number_after(b": ", rows);
-    print::line(b" do");
+fn many(rt: &HostRuntime, rows: u32) -> io::Result<()> {
+    println!(rt; "{}: {rows} do", Numbered(14))
 }
 
-fn reason(number: u32, present: &[u32], wanted: &[u32]) {
-    if number == 3 {
-        too_large(present, wanted);
-        return;
+fn reason(rt: &HostRuntime, number: u32, present: &[u32], wanted: &[u32]) -> io::Result<()> {
+    let why = match number {
+        3 => return too_large(rt, present, wanted),
+        13 => Why::Lost,
+        11 => Why::Kept,
+        _ => Why::Changed,
+    };
+    let first = find(why, present, wanted);
+    let own = row_at(present, first.row);
+    let other = row_at(wanted, first.row);
+    match why {
+        Why::Lost => lost(rt, first, own, other),
+        Why::Kept => kept(rt, first, own, other),
+        Why::Changed => many(rt, first.rows),
     }
-    if number == 13 {
-        let first = find(Why::Lost, present, wanted);
-        lost(first, row_at(present, first.row), row_at(wanted, first.row));
-        return;
-    }
-    if number == 11 {
-        let first = find(Why::Kept, present, wanted);
-        kept(first, row_at(present, first.row), row_at(wanted, first.row));
-        return;
-    }
-    let first = find(Why::Changed, present, wanted);
-    many(first.rows);
 }
 
-pub(crate) fn lines(number: u32, present: &[u32], wanted: &[u32]) {
-    reason(number, present, wanted);
-    print::line(b"no job is written");
+pub(crate) fn lines(
+    rt: &HostRuntime,
+    number: u32,
+    present: &[u32],
+    wanted: &[u32],
+) -> io::Result<()> {
+    reason(rt, number, present, wanted)?;
+    println!(rt; "no job is written")
 }

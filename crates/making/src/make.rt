@@ -1,90 +1,64 @@
 // `otp make`: the job that burns a present image into a wanted one (request 2026-04).
 use crate::against;
 use crate::found::bits_to_burn;
+use console::ended::{End, Stop};
 use console::files::load_image;
 use console::options::Words;
-use console::saving::save_bytes;
+use console::saving::{Entries, save_bytes, written_line};
 use console::takes::{Role, Takes};
-use console::usage::{Given, asked};
-use console::{ended, word};
+use console::usage::{asked, needed};
 use form::entries::count_of;
 use form::faults::MOST_ENTRIES;
 use maker::making::make_job;
-use screen::print;
+use screen::shown::Counted;
+use std::io;
 use typed::words::part;
 
 // Room for the longest job, so that an output that is too short is never the reason.
 const ROOM: usize = 7 + 6 * (MOST_ENTRIES as usize);
 
-// "5 entries, 37 bits to burn"
-fn burning(entries: u32, bits: u32) {
-    print::number(entries);
-    if entries == 1 {
-        print::text(b" entry, ");
-    } else {
-        print::text(b" entries, ");
-    }
-    print::counted(bits, b"bit");
-    print::text(b" to burn");
-}
-
-fn last_line(rt: &HostRuntime, entries: u32, bits: u32, place: usize) {
+// "5 entries, 37 bits to burn, written as card.job"
+fn last_line(rt: &HostRuntime, entries: u32, bits: u32, place: usize) -> io::Result<()> {
     if entries == 0 {
-        print::text(b"no entries, for the images are the same");
-    } else {
-        burning(entries, bits);
+        return written_line(rt, "no entries, for the images are the same", place);
     }
-    print::text(b", written as ");
-    word::print(rt, place);
-    print::end();
-    ended::answered(0);
+    let bits = Counted(bits, "bit");
+    written_line(
+        rt,
+        format_args!("{}, {bits} to burn", Entries(entries)),
+        place,
+    )
 }
 
-fn made(rt: &HostRuntime, words: Words, job: &[u8], bits: u32) {
-    if save_bytes(rt, words.third, job) {
-        last_line(rt, count_of(job), bits, words.third);
-    }
-}
-
-// The job is the first bytes of an array.
-fn of_bytes(rt: &HostRuntime, words: Words, bytes: &[u8; ROOM], length: usize, burnt: u32) {
-    made(rt, words, part(bytes, 0, length), burnt);
-}
-
-fn of_images(rt: &HostRuntime, words: Words, present: &[u32; 4096], wanted: &[u32; 4096]) {
+fn of_images(
+    rt: &HostRuntime,
+    place: usize,
+    present: &[u32; 4096],
+    wanted: &[u32; 4096],
+) -> Result<End, Stop> {
     let mut bytes = [0u8; ROOM];
     let answer = make_job(present, wanted, &mut bytes);
     if answer.number != 0 {
-        against::lines(answer.number, present, wanted);
-        ended::answered(answer.number);
-        return;
+        against::lines(rt, answer.number, present, wanted)?;
+        return Ok(End::Answered(answer.number));
     }
-    of_bytes(
-        rt,
-        words,
-        &bytes,
-        answer.value as usize,
-        bits_to_burn(present, wanted),
-    );
+    let job = part(&bytes, 0, answer.value as usize);
+    save_bytes(rt, place, job)?;
+    last_line(rt, count_of(job), bits_to_burn(present, wanted), place)?;
+    Ok(End::Answered(0))
 }
 
-fn of_words(rt: &HostRuntime, words: Words) {
+fn of_words(rt: &HostRuntime, words: Words) -> Result<End, Stop> {
     let mut present = [0u32; 4096];
-    if !load_image(rt, words.first, &mut present) {
-        return;
-    }
+    load_image(rt, needed(rt, words.first)?, &mut present)?;
     let mut wanted = [0u32; 4096];
-    if !load_image(rt, words.second, &mut wanted) {
-        return;
-    }
-    of_images(rt, words, &present, &wanted);
+    load_image(rt, needed(rt, words.second)?, &mut wanted)?;
+    of_images(rt, needed(rt, words.third)?, &present, &wanted)
 }
 
-pub fn run(rt: &HostRuntime) {
+pub fn run(rt: &HostRuntime) -> Result<End, Stop> {
     let takes = Takes::words(Role::Image, Role::Image, 3, 3)
         .with_third(Role::Written)
         .with_replace();
-    if let Given::Words(words) = asked(rt, takes) {
-        of_words(rt, words);
-    }
+    of_words(rt, asked(rt, takes)?)
 }
