@@ -1,30 +1,35 @@
 // What stands against the entry that a job is refused for.
+use crate::answered::Trial;
 use answer::answers::Answer;
+use chip::callers::SECURE;
 use chip::slices::row_at;
 use form::entries::entry_at;
 use row::coding::{inverted, plain};
-use screen::print;
-use wording::levels::Levels;
+use screen::shown::{Bits, Value};
+use std::io;
 use wording::{job_refusals, levels};
 
-// The bits that the row holds already, and the two rows that would hold the value.
-fn clash(old: u32, value: u16) {
-    print::bits_after(b"   it holds ", old);
-    print::value_after(b", and ", value as u32);
-    print::bits_after(b" is ", plain(value));
-    print::bits_after(b" or ", inverted(value));
-    print::end();
-}
-
-// The lines of a refused job. The levels are those of the entry at the answer's place.
-pub fn lines(rows: &[u32], levels: Levels, job: &[u8], answer: Answer) {
-    job_refusals::headline(job, answer.number, answer.place);
-    let entry = entry_at(job, answer.place);
+// The lines of a refused job: of one that may not be written the levels of its page, and of one that fits in neither polarity the bits that
+// the row holds already, and the two rows that would hold the value.
+pub(crate) fn lines(rt: &HostRuntime, trial: &Trial<'_>, answer: Answer) -> io::Result<()> {
+    job_refusals::headline(rt, trial.job, answer.number, answer.place)?;
+    let entry = entry_at(trial.job, answer.place);
     if answer.number == 7 {
-        levels::of_entry(levels, entry.row);
+        levels::of_entry(
+            rt,
+            levels::levels_of(trial.state, SECURE, entry.row),
+            entry.row,
+        )?;
     }
     if answer.number == 9 {
-        clash(row_at(rows, entry.row), (entry.value % 65536) as u16);
+        let value = (entry.value % 65536) as u16;
+        println!(rt;
+            "   it holds {}, and {} is {} or {}",
+            Bits(row_at(trial.before, entry.row)),
+            Value(value as u32),
+            Bits(plain(value)),
+            Bits(inverted(value))
+        )?;
     }
-    print::line(b"no row changes");
+    println!(rt; "no row changes")
 }

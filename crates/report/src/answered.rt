@@ -1,105 +1,104 @@
 // What a job was answered, and what it did: what it changes row by row, what it locks, and what each page gains (document 01, "Jobs").
+ghost use Rattle.std.specs.Prelude.{◌≡◌, IfOk};
+
+use crate::locks::Parts;
 use crate::{against, changes, locks};
 use answer::answers::Answer;
 use board::begin::finish;
-use chip::callers::SECURE;
 use chip::state::{Outcome, State};
+use console::ended::{End, Stop};
 use console::options::Words;
 use console::saving::{save_asked, saved_line};
-use form::entries::{count_of, entry_at};
-use screen::print;
-use wording::levels::levels_of;
+use form::entries::count_of;
+use screen::shown::Counted;
+use std::{fmt, io};
 use wording::{burnt, refusals};
 
+// A job that was run on a copy of an image: the rows before and after it, the state before it, the limit of pulses if there was one, and what
+// came of it.
+#[derive(Clone, Copy)]
+pub struct Trial<'a> {
+    pub before: &'a [u32],
+    pub after: &'a [u32; 4096],
+    pub state: State,
+    pub job: &'a [u8],
+    pub limit: Option<u32>,
+    pub outcome: Outcome,
+}
+
 // "2 of 3 entries stand"
-fn standing(answer: Answer, count: u32) {
-    print::number(answer.place);
-    print::number_after(b" of ", count);
-    print::text(b" entries stand");
+#[derive(Clone, Copy)]
+struct Standing {
+    place: u32,
+    count: u32,
 }
 
-// "2 of 3 entries stand, 8 pulses, limit 8"
-fn summary(answer: Answer, count: u32, words: Words, limit: u32) {
-    standing(answer, count);
-    print::text(b", ");
-    print::counted(answer.pulses, b"pulse");
-    limit_words(words, limit);
-}
-
-fn limit_words(words: Words, limit: u32) {
-    if words.third == 0 {
-        print::line(b", no limit");
-        return;
+impl fmt::Display for Standing {
+    fn fmt<W: fmt::Write>(&self, f: &mut fmt::Formatter<W>) -> fmt::Result {
+        write!(f, "{} of {} entries stand", self.place, self.count)
     }
-    print::number_after(b", limit ", limit);
-    print::end();
 }
 
-// The first line decides what a person does next, so it says where the limit cut the job.
-fn headline(before: &[u32; 4096], job: &[u8], answer: Answer, count: u32) {
-    if answer.place == count {
-        refusals::number_and_words(0);
-        print::end();
-        return;
+impl Trial<'_> {
+    // What is shown of it. A refused job leaves nothing to save, and what cannot be saved is not shown.
+    pub fn show(&self, rt: &HostRuntime, words: Words) -> Result<End, Stop>
+        ensures { IfOk result (λ end. end ≡ End.Answered self.now.outcome.answer.number) }
+    {
+        let answer = self.outcome.answer;
+        if answer.number != 0 {
+            against::lines(rt, self, answer)?;
+            return finish(rt, words, self.state, answer.number);
+        }
+        save_asked(rt, words, self.after)?;
+        self.changed(rt, answer)?;
+        let left = self.outcome.state;
+        burnt::gain_lines(rt, self.state.tallies, left.tallies)?;
+        self.summary(rt, answer)?;
+        saved_line(rt, words)?;
+        finish(rt, words, self.state, 0)
     }
-    print::text(b"0: cut after ");
-    print::counted(answer.pulses, b"pulse");
-    locks::among(before, job, answer);
-    print::text(b": ");
-    standing(answer, count);
-    print::end();
-}
 
-fn changed(before: &[u32; 4096], after: &[u32; 4096], job: &[u8], answer: Answer) {
-    let count = count_of(job);
-    headline(before, job, answer, count);
-    print::end();
-    if count == 0 {
-        print::line(b"no row changes");
-    } else {
-        print::line(b"row    old         new       pulses  kind  value");
-        changes::lines(before, after, job);
+    fn changed(&self, rt: &HostRuntime, answer: Answer) -> io::Result<()> {
+        self.headline(rt, answer)?;
+        if count_of(self.job) == 0 {
+            println!(rt; "\nno row changes\n")?;
+        } else {
+            println!(rt; "\nrow    old         new       pulses  kind  value")?;
+            changes::lines(rt, self)?;
+            println!(rt; "")?;
+        }
+        locks::show(rt, self, answer)
     }
-    print::end();
-    locks::show(before, after, job, answer);
-}
 
-fn gains(before: State, after: State) {
-    let old = before.tallies;
-    let new = after.tallies;
-    burnt::gain_lines(old, new);
-}
-
-// A refused job leaves nothing to save.
-fn refused(words: Words, before: &[u32; 4096], state: State, job: &[u8], answer: Answer) {
-    let entry = entry_at(job, answer.place);
-    against::lines(before, levels_of(state, SECURE, entry.row), job, answer);
-    finish(words, state, answer.number);
-}
-
-// The outcome of a job that was run on a copy of the rows: those before and after it. What cannot be saved is not shown.
-pub fn show(
-    rt: &HostRuntime,
-    words: Words,
-    before: &[u32; 4096],
-    after: &[u32; 4096],
-    state: State,
-    job: &[u8],
-    limit: u32,
-    outcome: Outcome,
-) {
-    let answer = outcome.answer;
-    if answer.number != 0 {
-        refused(words, before, state, job, answer);
-        return;
+    fn standing(&self, answer: Answer) -> Standing {
+        Standing {
+            place: answer.place,
+            count: count_of(self.job),
+        }
     }
-    if !save_asked(rt, words, after) {
-        return;
+
+    // The first line decides what a person does next, so it says where the limit cut the job.
+    fn headline(&self, rt: &HostRuntime, answer: Answer) -> io::Result<()> {
+        let standing = self.standing(answer);
+        if standing.place == standing.count {
+            return println!(rt; "{}", refusals::Numbered(0));
+        }
+        let pulses = Counted(answer.pulses, "pulse");
+        let among = if Parts::of(self.before, self.job).begun(answer) {
+            ", among the locks"
+        } else {
+            ""
+        };
+        println!(rt; "0: cut after {pulses}{among}: {standing}")
     }
-    changed(before, after, job, answer);
-    let left = outcome.state;
-    gains(state, left);
-    summary(answer, count_of(job), words, limit);
-    saved_line(rt, words);
-    finish(words, state, 0);
+
+    // "2 of 3 entries stand, 8 pulses, limit 8"
+    fn summary(&self, rt: &HostRuntime, answer: Answer) -> io::Result<()> {
+        let standing = self.standing(answer);
+        let pulses = Counted(answer.pulses, "pulse");
+        match self.limit {
+            Some(limit) => println!(rt; "{standing}, {pulses}, limit {limit}"),
+            None => println!(rt; "{standing}, {pulses}, no limit"),
+        }
+    }
 }

@@ -1,123 +1,98 @@
 // What a rehearsed job locks: what the next reset latches of each lock row, where its locks begin, and what a cut means (request 2026-09).
+use crate::answered::Trial;
 use answer::answers::Answer;
 use board::lock_rows;
 use chip::pages::Page;
 use chip::slices::row_at;
-use form::entries::{Entry, count_of, entry_at};
-use judge::verdicts::entry_written;
-use screen::print;
-use screen::tally::sum;
+use form::entries::{count_of, entry_at};
+use judge::verdicts::entry_burnt;
+use screen::shown::{Counted, Row};
+use std::io;
 
 // The two parts of a job: how many entries come before its locks, the pulses of these, and the pulses of its locks.
-#[derive(Clone, Copy)]
-struct Parts {
+#[derive(Clone, Copy, Default)]
+pub(crate) struct Parts {
     entries: u32,
     data: u32,
     locks: u32,
 }
 
-fn with(parts: Parts, entry: Entry, pulses: u32) -> Parts {
-    if Page::FIRST_LOCK_ROW <= entry.row {
-        return Parts {
-            entries: parts.entries,
-            data: parts.data,
-            locks: sum(parts.locks, pulses),
-        };
+impl Parts {
+    // What the whole job takes on these rows.
+    pub(crate) fn of(before: &[u32], job: &[u8]) -> Parts {
+        let mut parts = Parts::default();
+        for place in 0..count_of(job) {
+            let entry = entry_at(job, place);
+            let pulses = entry_burnt(row_at(before, entry.row), entry).pulses;
+            if Page::FIRST_LOCK_ROW <= entry.row {
+                parts.locks = parts.locks.saturating_add(pulses);
+            } else {
+                parts.entries = parts.entries.saturating_add(1);
+                parts.data = parts.data.saturating_add(pulses);
+            }
+        }
+        parts
     }
-    Parts {
-        entries: sum(parts.entries, 1),
-        data: sum(parts.data, pulses),
-        locks: parts.locks,
-    }
-}
 
-// What the whole job takes on these rows.
-fn parts_of(before: &[u32], job: &[u8]) -> Parts {
-    let mut parts = Parts {
-        entries: 0,
-        data: 0,
-        locks: 0,
-    };
-    let count = count_of(job);
-    for place in 0..count {
-        let entry = entry_at(job, place);
-        let written = entry_written(row_at(before, entry.row), entry);
-        parts = with(parts, entry, written.pulses);
-    }
-    parts
-}
-
-// Whether a lock pulse was given: the data rows come first, and their pulses with them.
-fn begun(parts: Parts, answer: Answer) -> bool {
-    parts.data < answer.pulses
-}
-
-// Where the job was cut after a lock pulse, the first line says so: ", among the locks"
-pub fn among(before: &[u32], job: &[u8], answer: Answer) {
-    if begun(parts_of(before, job), answer) {
-        print::text(b", among the locks");
+    // Whether a lock pulse was given: the data rows come first, and their pulses with them.
+    pub(crate) fn begun(&self, answer: Answer) -> bool {
+        self.data < answer.pulses
     }
 }
 
 // "0xf87  3     Secure level 0, Non-secure level 1, bootloader level 0"
-fn line(row: u32, bits: u32) {
-    print::row(row);
-    print::text(b"  ");
-    print::number_left(lock_rows::page_of(row), 6);
-    lock_rows::words(row, bits);
-    print::end();
-}
-
-fn lines(after: &[u32], job: &[u8], first: u32) {
-    let count = count_of(job);
-    for place in first..count {
-        let entry = entry_at(job, place);
-        line(entry.row, row_at(after, entry.row));
+fn lines(rt: &HostRuntime, trial: &Trial<'_>, first: u32) -> io::Result<()> {
+    let after = trial.after;
+    for place in first..count_of(trial.job) {
+        let row = entry_at(trial.job, place).row;
+        let page = lock_rows::page_of(row);
+        let words = lock_rows::Words(row, row_at(after, row));
+        println!(rt; "{}  {page:<6}{words}", Row(row))?;
     }
+    Ok(())
 }
 
 // Where the locks begin.
-fn beginning(parts: Parts) {
+fn beginning(rt: &HostRuntime, parts: Parts) -> io::Result<()> {
     if parts.locks == 0 {
-        print::line(b"The locks stand already.");
-        return;
+        return println!(rt; "The locks stand already.");
     }
-    print::number_after(b"The locks begin at entry ", parts.entries);
-    print::text(b", after ");
-    print::counted(parts.data, b"pulse");
-    print::line(b".");
+    let pulses = Counted(parts.data, "pulse");
+    println!(rt;
+        "The locks begin at entry {}, after {pulses}.",
+        parts.entries
+    )
 }
 
 // What is promised of a job that is cut, and of this one where it was.
-fn cut(parts: Parts, answer: Answer, whole: bool) {
+fn cut(rt: &HostRuntime, parts: Parts, answer: Answer, whole: bool) -> io::Result<()> {
     if whole {
         if 0 < parts.locks {
-            print::line(
-                b"Cut after that, the job may be refused with 7 from then on; its data rows stand.",
-            );
+            println!(rt;
+                "Cut after that, the job may be refused with 7 from then on; its data rows stand."
+            )?;
         }
-        return;
+        return Ok(());
     }
-    if begun(parts, answer) {
-        print::line(
-            b"Cut after the first lock pulse: the job may be refused with 7 from now on; its data rows stand.",
+    if parts.begun(answer) {
+        return println!(rt;
+            "Cut after the first lock pulse: the job may be refused with 7 from now on; its data rows stand."
         );
-        return;
     }
-    print::line(b"Cut before the first lock pulse: the job can be run again.");
+    println!(rt; "Cut before the first lock pulse: the job can be run again.")
 }
 
 // A job without lock rows has nothing of this on its screen.
-pub fn show(before: &[u32], after: &[u32], job: &[u8], answer: Answer) {
-    let parts = parts_of(before, job);
-    let count = count_of(job);
+pub(crate) fn show(rt: &HostRuntime, trial: &Trial<'_>, answer: Answer) -> io::Result<()> {
+    let parts = Parts::of(trial.before, trial.job);
+    let count = count_of(trial.job);
     if count <= parts.entries {
-        return;
+        return Ok(());
     }
-    print::line(b"lock   page  what the next reset latches");
-    lines(after, job, parts.entries);
-    print::end();
-    beginning(parts);
-    cut(parts, answer, answer.place == count);
-    print::end();
+    println!(rt; "lock   page  what the next reset latches")?;
+    lines(rt, trial, parts.entries)?;
+    println!(rt; "")?;
+    beginning(rt, parts)?;
+    cut(rt, parts, answer, answer.place == count)?;
+    println!(rt; "")
 }
