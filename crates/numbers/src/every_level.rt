@@ -1,141 +1,112 @@
 // Who may read and write a row, by every level that decides it: key level, Secure, Non-secure and bootloader (document 01, "Permission";
 // request 2026-05).
-use crate::every_lock::name;
-use crate::{print, states};
+use crate::every_lock::NAMES;
+use crate::states;
+use crate::table::Table;
 use access::reads::{read_ecc, read_raw};
 use access::votes::read_vote;
 use burn::writes::{write_ecc, write_raw};
 use chip::state::State;
-use screen::tally;
-use screen::tally::{Tally, one_more};
+use std::{fmt, io};
 
 const PAGE: u32 = 3;
 
 const ROW: u32 = 0x0c0;
 
-// A line says what a caller may do at a key level: a group for each Secure level, in it three places for each Non-secure level, one for
+// What a caller may do at a key level: a group for each Secure level, in it three places for each Non-secure level, one for
 // each bootloader level.
-type Line = [u8; 30];
+#[derive(Clone, Copy)]
+struct Line([u8; 30]);
+
+impl fmt::Display for Line {
+    fn fmt<W: fmt::Write>(&self, f: &mut fmt::Formatter<W>) -> fmt::Result {
+        for letter in self.0 {
+            f.write_char(char::from(letter))?;
+        }
+        Ok(())
+    }
+}
 
 // What must be: w reads and writes, r reads, - neither. Three lines for each caller, Secure, Non-secure and bootloader: key levels 0, 1
 // and 2.
-fn must(place: usize) -> u8 {
-    let table: &[u8] = b"\
-        wwwwwwwww rrrrrrrrr --------- \
-        rrrrrrrrr rrrrrrrrr --------- \
-        --------- --------- --------- \
-        wwwrrr--- rrrrrr--- rrrrrr--- \
-        rrrrrr--- rrrrrr--- rrrrrr--- \
-        --------- --------- --------- \
-        wr-wr-wr- rr-rr-rr- --------- \
-        rr-rr-rr- rr-rr-rr- --------- \
-        --------- --------- --------- ";
-    if place < table.len() {
-        return table[place];
-    }
-    b' '
-}
+const MUST: [[Line; 3]; 3] = [
+    [
+        Line(*b"wwwwwwwww rrrrrrrrr --------- "),
+        Line(*b"rrrrrrrrr rrrrrrrrr --------- "),
+        Line(*b"--------- --------- --------- "),
+    ],
+    [
+        Line(*b"wwwrrr--- rrrrrr--- rrrrrr--- "),
+        Line(*b"rrrrrr--- rrrrrr--- rrrrrr--- "),
+        Line(*b"--------- --------- --------- "),
+    ],
+    [
+        Line(*b"wr-wr-wr- rr-rr-rr- --------- "),
+        Line(*b"rr-rr-rr- rr-rr-rr- --------- "),
+        Line(*b"--------- --------- --------- "),
+    ],
+];
 
 // A state with these levels at the page. An index that never matches makes the key level the no-key state plus 1.
-fn with_levels(key: u32, secure: u32, nonsecure: u32, bootloader: u32) -> State {
-    let state = states::with_levels(State::zeros(), PAGE, secure, nonsecure, bootloader);
+fn with_levels(key: u32, levels: [u32; 3]) -> State {
+    let state = states::with_levels(State::zeros(), PAGE, levels);
     if key == 0 {
         return state;
     }
     states::with_indexes(state, PAGE, 7, 0, key - 1)
 }
 
-// The number of every read, or 4 where they differ: none of these calls is malformed.
-fn read_number(rows: &[u32], state: State, caller: u32) -> u32 {
-    let raw = read_raw(rows, state, caller, ROW);
-    let ecc = read_ecc(rows, state, caller, ROW);
-    let vote = read_vote(rows, state, caller, ROW, 8);
-    if raw.number == ecc.number && raw.number == vote.number {
-        return raw.number;
-    }
-    4
+// The number of every read, or none where they differ: none of these calls is malformed.
+fn read_number(rows: &[u32], state: State, caller: u32) -> Option<u32> {
+    let raw = read_raw(rows, state, caller, ROW).number;
+    let ecc = read_ecc(rows, state, caller, ROW).number;
+    let vote = read_vote(rows, state, caller, ROW, 8).number;
+    (raw == ecc && raw == vote).then_some(raw)
 }
 
-// The number of both writes, or 4 where they differ.
-fn write_number(rows: &mut [u32], state: State, caller: u32) -> u32 {
-    let raw = write_raw(rows, state, caller, ROW, 0);
-    let ecc = write_ecc(rows, state, caller, ROW, 0);
-    if raw.answer.number == ecc.answer.number {
-        return raw.answer.number;
-    }
-    4
-}
-
-fn letter(read: u32, write: u32) -> u8 {
-    if read == 0 && write == 0 {
-        return b'w';
-    }
-    if read == 0 && write == 7 {
-        return b'r';
-    }
-    if read == 7 && write == 7 {
-        return b'-';
-    }
-    b'?'
-}
-
-// What must be and what is, and at how many of the 27 levels they are the same.
-#[derive(Clone, Copy)]
-struct Both {
-    must: Line,
-    is: Line,
-    right: u32,
+// The number of both writes, or none where they differ.
+fn write_number(rows: &mut [u32], state: State, caller: u32) -> Option<u32> {
+    let raw = write_raw(rows, state, caller, ROW, 0).answer.number;
+    let ecc = write_ecc(rows, state, caller, ROW, 0).answer.number;
+    (raw == ecc).then_some(raw)
 }
 
 // What a caller may do, on blank rows: no call changes one.
-fn own_letter(state: State, caller: u32) -> u8 {
+fn letter(state: State, caller: u32) -> u8 {
     let mut rows = [0u32; 4096];
     let read = read_number(&rows, state, caller);
     let write = write_number(&mut rows, state, caller);
-    letter(read, write)
+    match (read, write) {
+        (Some(0), Some(0)) => b'w',
+        (Some(0), Some(7)) => b'r',
+        (Some(7), Some(7)) => b'-',
+        _ => b'?',
+    }
 }
 
-fn lines(caller: u32, key: u32) -> Both {
-    let mut must_be = [b' '; 30];
-    let mut it_is = [b' '; 30];
+fn tried(table: &mut Table, name: &str, caller: u32, key: u32, must: Line) -> io::Result<()> {
+    let mut is = [b' '; 30];
     let mut right = 0;
     for levels in 0u32..27 {
-        let state = with_levels(key, levels / 9, levels / 3 % 3, levels % 3);
-        let own = own_letter(state, caller);
-        let place = (levels / 9 * 10 + levels % 9) as usize;
-        let asked = must((caller % 3 * 90 + key % 3 * 30) as usize + place);
-        must_be[place] = asked;
-        it_is[place] = own;
-        right = one_more(right, own == asked);
+        let state = with_levels(key, [levels / 9, levels / 3 % 3, levels % 3]);
+        let at = (levels / 9 * 10 + levels % 9) as usize;
+        is[at] = letter(state, caller);
+        right += u32::from(is[at] == must.0[at]);
     }
-    Both {
-        must: must_be,
-        is: it_is,
-        right,
-    }
+    print!(table.rt; "{name:<12}{key}    {must}  {}", Line(is))?;
+    table.verdict_of_many(right, 27)
 }
 
-fn tried(tally: Tally, caller: u32, key: u32) -> Tally {
-    let both = lines(caller, key);
-    name(caller);
-    print::number(key);
-    print::text(b"    ");
-    print::text(&both.must);
-    print::text(b"  ");
-    print::text(&both.is);
-    print::verdict(both.right == 27);
-    tally::compared_many(tally, both.right, 27)
-}
-
-pub fn all(tally: Tally) -> Tally {
-    print::text(
-        b"\nWho may read and write, by every level: w reads and writes, r reads, - neither\n",
-    );
-    print::text(b"A group for each Secure level, in it Non-secure levels by bootloader levels\n");
-    print::text(b"caller      key  must be                         is\n");
-    let mut next = tally;
-    for place in 0u32..9 {
-        next = tried(next, place / 3, place % 3);
+pub fn all(table: &mut Table) -> io::Result<()> {
+    println!(table.rt;
+        "\nWho may read and write, by every level: w reads and writes, r reads, - neither
+A group for each Secure level, in it Non-secure levels by bootloader levels
+caller      key  must be                         is"
+    )?;
+    for (caller, (name, lines)) in (0..).zip(NAMES.iter().zip(MUST)) {
+        for (key, must) in (0..).zip(lines) {
+            tried(table, name, caller, key, must)?;
+        }
     }
-    next
+    Ok(())
 }

@@ -3,31 +3,29 @@
 // write all rows and the whole state are compared, and after a call on the state all of it.
 #![tactic(auto)]
 
-mod answers;
 mod board;
+mod calls;
 mod every_level;
 mod every_lock;
 mod names;
 mod outcomes;
 mod preparing;
-mod print;
-mod row_calls;
 mod said;
 mod same;
 mod scene;
-mod state_calls;
 mod states;
+mod table;
 mod tallies;
-mod text;
 
+use board::Board;
+use io::read_full;
 use screen::tally;
+use table::Table;
 
 // The number of the file descriptor that a program reads from.
 const STANDARD_INPUT: i32 = 0;
 
-fn legend() {
-    print::text(
-        b"The numbers of the nine calls against document 01
+const LEGEND: &str = "The numbers of the nine calls against document 01
 
 An answer is its number, its value, its condition and its pulses. The condition is clean, or the
 repaired bit, or worn where bits 23 and 22 disagree, with the repaired bit; ~ marks an inverted row.
@@ -40,18 +38,22 @@ and state:
   raised   the state with that one level
   entered  the state with that key entered
   -        nothing to leave: a read or a show
-",
-    );
-}
+";
 
-fn main() {
-    legend();
+fn main(rt: HostRuntime) -> std::io::Result<()> {
+    print!(rt; "{LEGEND}")?;
     let mut input = [0u8; 131072];
-    let count = io::read_full(STANDARD_INPUT, &mut input);
-    let played = scene::play(&input[..count]);
+    let count = read_full(STANDARD_INPUT, &mut input);
+    let mut board = Board::blank(Table {
+        rt: &rt,
+        tally: tally::nothing_yet(),
+    });
+    board.play(&input[..count])?;
     if count == input.len() {
-        print::text(b"the input may be longer than what was read\n");
+        println!(rt; "the input may be longer than what was read")?;
     }
-    let all = every_level::all(every_lock::all(played));
-    tally::last_line(all);
+    every_lock::all(&mut board.table)?;
+    every_level::all(&mut board.table)?;
+    tally::last_line(board.table.tally);
+    Ok(())
 }

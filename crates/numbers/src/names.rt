@@ -1,65 +1,58 @@
-// The names that a line of a scene can begin with, by their places in one list.
-use crate::text::begins;
+// The names that a line of a scene can begin with.
 
-pub const READ_RAW: usize = 0;
+#[derive(Clone, Copy, Debug, PartialEq, Eq)]
+pub enum Name {
+    ReadRaw,
+    ReadEcc,
+    ReadVote,
+    WriteRaw,
+    WriteEcc,
+    Reset,
+    Advance,
+    Show,
+    EnterKey,
+    // From here on they prepare.
+    Entries,
+    Row,
+    Open,
+    Levels,
+    Indexes,
+    Words,
+    Bytes,
+    Key,
+    Entered,
+    Tally,
+}
 
-pub const READ_ECC: usize = 1;
+// Every name, with the blanks that fill its column.
+const NAMES: [(&[u8; 9], Name); 19] = [
+    (b"read raw ", Name::ReadRaw),
+    (b"read ECC ", Name::ReadEcc),
+    (b"read vote", Name::ReadVote),
+    (b"write raw", Name::WriteRaw),
+    (b"write ECC", Name::WriteEcc),
+    (b"reset    ", Name::Reset),
+    (b"advance  ", Name::Advance),
+    (b"show     ", Name::Show),
+    (b"enter key", Name::EnterKey),
+    (b"entries  ", Name::Entries),
+    (b"row      ", Name::Row),
+    (b"open     ", Name::Open),
+    (b"levels   ", Name::Levels),
+    (b"indexes  ", Name::Indexes),
+    (b"words    ", Name::Words),
+    (b"bytes    ", Name::Bytes),
+    (b"key      ", Name::Key),
+    (b"entered  ", Name::Entered),
+    (b"tally    ", Name::Tally),
+];
 
-pub const READ_VOTE: usize = 2;
-
-pub const WRITE_RAW: usize = 3;
-
-pub const WRITE_ECC: usize = 4;
-
-pub const RESET: usize = 5;
-
-pub const ADVANCE: usize = 6;
-
-pub const SHOW: usize = 7;
-
-pub const ENTER_KEY: usize = 8;
-
-// From here on they prepare.
-pub const ENTRIES: usize = 9;
-
-pub const ROW: usize = 10;
-
-pub const OPEN: usize = 11;
-
-pub const LEVELS: usize = 12;
-
-pub const INDEXES: usize = 13;
-
-pub const WORDS: usize = 14;
-
-pub const BYTES: usize = 15;
-
-pub const KEY: usize = 16;
-
-pub const ENTERED: usize = 17;
-
-pub const TALLY: usize = 18;
-
-pub const COUNT: usize = 19;
-
-// The place of the name that a line begins with, or COUNT where there is none. Every name fills
-// nine places of the list.
-pub fn place_of(head: &[u8]) -> usize {
-    let names: &[u8] = b"\
-        read raw read ECC read vote\
-        write rawwrite ECCreset    \
-        advance  show     enter key\
-        entries  row      open     \
-        levels   indexes  words    \
-        bytes    key      entered  \
-        tally    ";
-    let mut place = 0;
-    while place < COUNT {
-        let from = 9 * place;
-        if begins(&names[from..from + 9], head) {
-            return place;
+// The first name that begins with the head of a line, if there is one.
+pub fn named(head: &[u8]) -> Option<Name> {
+    for (name, own) in NAMES {
+        if name.starts_with(head) {
+            return Some(own);
         }
-        place += 1;
     }
-    COUNT
+    None
 }

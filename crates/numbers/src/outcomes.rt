@@ -1,94 +1,78 @@
 // The rest of a case's line: what must be, what is, what is left of rows and state, the verdict.
 use crate::board::{Board, ROWS};
-use crate::said::{NONE, Said, or_zero};
+use crate::said::{NONE, Said};
 use crate::same::same_state;
-use crate::{answers, print, states, tallies};
+use crate::table::Columns;
+use crate::{states, tallies};
 use answer::answers::Answer;
 use chip::state::{Outcome, State};
-use screen::same::same_answer;
-use screen::tally;
+use std::io;
 
-// The word says what must be left, and "other" stands there where something else is.
-fn left_column(word: &[u8], as_must: bool) {
-    if as_must {
-        print::left(word, 8);
-    } else {
-        print::left(b"other", 8);
+impl Board<'_> {
+    // The word says what must be left, and "other" stands there where something else is. The place of an answer, always 0 outside
+    // jobs, has no column, and is compared all the same.
+    fn finished(&mut self, line: Said, is: Answer, word: &str, as_must: bool) -> io::Result<()> {
+        let must = line.must;
+        let left = if as_must { word } else { "other" };
+        print!(self.table.rt; "{}{}{left:<8}", Columns(must), Columns(is))?;
+        self.table.verdict(is == must && as_must)
     }
-}
 
-fn finished(board: Board, said: Said, is: Answer, word: &[u8], as_must: bool) -> Board {
-    let must = answers::must(said);
-    // The place, always 0 outside jobs, has no column, and is compared all the same.
-    let right = same_answer(is, must) && as_must;
-    answers::columns(must);
-    answers::columns(is);
-    left_column(word, as_must);
-    print::verdict(right);
-    let before = board.tally;
-    let counted = tally::compared(before, right);
-    let mut next = board;
-    next.tally = counted;
-    next
-}
-
-// A call that is lent nothing to change.
-pub fn answered(board: Board, said: Said, is: Answer) -> Board {
-    finished(board, said, is, b"-", true)
-}
-
-// A done write leaves its row as the line says, and every other row as it was.
-pub fn must_rows(before: [u32; ROWS], said: Said) -> [u32; ROWS] {
-    let mut rows = before;
-    if said.number != 0 {
-        return rows;
+    // A call that is lent nothing to change.
+    pub fn answered(&mut self, line: Said, is: Answer) -> io::Result<()> {
+        self.finished(line, is, "-", true)
     }
-    let at = (said.second % 4097) as usize;
-    rows[at] = said.left;
-    rows
-}
 
-// A done write leaves the tally of its page as the line says, or as the bits newly set make it, and the rest of the state.
-fn must_state(state: State, said: Said) -> State {
-    if said.tally != NONE {
-        return states::with_tally(state, said.second / 64, said.tally);
+    // A call that can change the state, with what it must leave and the word for that.
+    pub fn changed(
+        &mut self,
+        line: Said,
+        outcome: Outcome,
+        must: State,
+        word: &str,
+    ) -> io::Result<()> {
+        self.left(line, outcome, must, word, true)
     }
-    tallies::with_new_bits(state, said.second, or_zero(said.pulses))
-}
 
-// A call that can change the state, with what it must leave and the word for that. Of a write all rows were compared.
-fn left(
-    board: Board,
-    said: Said,
-    outcome: Outcome,
-    must: State,
-    word: &[u8],
-    same_rows: bool,
-) -> Board {
-    let is = outcome.answer;
-    let after = outcome.state;
-    let as_must = same_rows && same_state(after, must);
-    let mut next = board;
-    next.state = must;
-    next.hand = must;
-    finished(next, said, is, word, as_must)
-}
-
-pub fn written(board: Board, said: Said, outcome: Outcome, same_rows: bool) -> Board {
-    let state = board.state;
-    if said.number == 0 {
-        return left(
-            board,
-            said,
-            outcome,
-            must_state(state, said),
-            b"burnt",
-            same_rows,
-        );
+    // A write: all rows were compared.
+    pub fn written(&mut self, line: Said, outcome: Outcome, same_rows: bool) -> io::Result<()> {
+        if line.must.number == 0 {
+            let must = self.must_state(line);
+            return self.left(line, outcome, must, "burnt", same_rows);
+        }
+        self.left(line, outcome, self.state, "kept", same_rows)
     }
-    left(board, said, outcome, state, b"kept", same_rows)
-}
 
-pub fn changed(board: Board, said: Said, outcome: Outcome, must: State, word: &[u8]) -> Board {
-    left(board, said, outcome, must, word, true)
+    fn left(
+        &mut self,
+        line: Said,
+        outcome: Outcome,
+        must: State,
+        word: &str,
+        same_rows: bool,
+    ) -> io::Result<()> {
+        let as_must = same_rows && same_state(&outcome.state, &must);
+        self.state = must;
+        self.hand = must;
+        self.finished(line, outcome.answer, word, as_must)
+    }
+
+    // A done write leaves its row as the line says, and every other row as it was.
+    pub fn must_rows(&self, line: Said) -> [u32; ROWS] {
+        let mut rows = self.rows;
+        if line.must.number == 0 {
+            let [_, row, _, _] = line.given;
+            rows[row as usize % ROWS] = line.left.unwrap_or(NONE);
+        }
+        rows
+    }
+
+    // A done write leaves the tally of its page as the line says, or as the bits newly set make it, and the rest of the state.
+    fn must_state(&self, line: Said) -> State {
+        let [_, row, _, _] = line.given;
+        match line.tally {
+            Some(count) => states::with_tally(self.state, row / 64, count),
+            None => tallies::with_new_bits(self.state, row, line.must.pulses),
+        }
+    }
 }

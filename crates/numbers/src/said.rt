@@ -1,138 +1,109 @@
 // The numbers of a line of a scene: what a call is given, and after a colon what must be.
+use answer::answers::{Answer, Condition, Polarity};
 
-// What must be is a number, a value, the place of a repaired bit, pulses, what is left, which is the
-// row that a write leaves or the level that an advance leaves, the polarity of a row that is read
-// and whether its bits 23 and 22 disagree, and the tally that a write leaves its page.
+// What a call is given, four numbers at most, what it must answer, and what must be left: the row that a write leaves or the level
+// that an advance leaves, and the tally that a write leaves its page.
 #[derive(Clone, Copy)]
 pub struct Said {
-    pub first: u32,
-    pub second: u32,
-    pub third: u32,
-    pub fourth: u32,
-    pub number: u32,
-    pub value: u32,
-    pub bit: u32,
-    pub pulses: u32,
-    pub left: u32,
-    pub polarity: u32,
-    pub disagree: u32,
-    pub tally: u32,
+    pub given: [u32; 4],
+    pub must: Answer,
+    pub left: Option<u32>,
+    pub tally: Option<u32>,
 }
 
 // What a number that is left out, or written as a dash, stands as.
 pub const NONE: u32 = 4294967295;
 
-pub fn or_zero(number: u32) -> u32 {
-    if number == NONE {
-        return 0;
+// A number, unless it is left out.
+pub fn stated(number: u32) -> Option<u32> {
+    (number != NONE).then_some(number)
+}
+
+// The value of a hexadecimal digit.
+fn digit(byte: u8) -> Option<u32> {
+    match byte {
+        b'0'..=b'9' => Some(u32::from(byte - b'0')),
+        b'a'..=b'f' => Some(u32::from(byte - b'a') + 10),
+        _ => None,
+    }
+}
+
+// The number that a word spells, decimal or, after 0x, hexadecimal. Past 32 bits it would wrap: no scene has such a number. A word that
+// begins with no digit, as a dash, goes on from the number that stands there.
+fn spelt(word: &[u8], standing: u32) -> u32 {
+    let mut number = standing;
+    let mut base = 10;
+    for (at, byte) in word.iter().enumerate() {
+        match digit(*byte) {
+            Some(first) if at == 0 => number = first,
+            Some(next) => number = number.wrapping_mul(base).wrapping_add(next),
+            None => base = if *byte == b'x' { 16 } else { 10 },
+        }
     }
     number
 }
 
-// The numbers as far as they are read, in the order above.
-#[derive(Clone, Copy)]
-struct Scan {
-    numbers: [u32; 12],
-    at: usize,
-    hex: bool,
-    inside: bool,
-}
-
-// The value of a digit, or 16 where the byte is none.
-fn digit(byte: u8) -> u32 {
-    if b'0' <= byte && byte <= b'9' {
-        return (byte % 16) as u32;
-    }
-    if b'a' <= byte && byte <= b'f' {
-        return (byte % 16) as u32 + 9;
-    }
-    16
-}
-
-// A number with one digit more. Past 32 bits it would wrap: no scene has such a number.
-fn grown(number: u32, hex: bool, digit: u32) -> u32 {
-    let whole = number as u64;
-    if hex {
-        return ((whole * 16 + digit as u64) % 4294967296) as u32;
-    }
-    ((whole * 10 + digit as u64) % 4294967296) as u32
-}
-
-// After a blank the next number begins, and after a colon what must be.
-fn ended(scan: Scan, byte: u8) -> Scan {
-    let mut next = scan;
-    next.hex = false;
-    next.inside = false;
-    if byte == b':' {
-        next.at = 4;
-        return next;
-    }
-    let at = scan.at;
-    if scan.inside {
-        if at < 11 {
-            next.at = at + 1;
+// The numbers of a part of a line, with as many places before a colon as a call is given at most.
+fn numbers(part: &[u8]) -> [u32; 12] {
+    let mut numbers = [NONE; 12];
+    let mut at = 0;
+    for (colons, words) in part.split(|byte| *byte == b':').enumerate() {
+        if 0 < colons {
+            at = 4;
+        }
+        for word in words.split(|byte| *byte == b' ') {
+            if word.is_empty() {
+                continue;
+            }
+            numbers[at] = spelt(word, numbers[at]);
+            at = (at + 1).min(11);
         }
     }
-    next
+    numbers
 }
 
-// A digit is put to the number at hand. Its first one takes the place of NONE.
-fn with_digit(scan: Scan, own: u32) -> Scan {
-    let mut next = scan;
-    next.inside = true;
-    let at = scan.at % 12;
-    if scan.inside {
-        next.numbers[at] = grown(scan.numbers[at], scan.hex, own);
-        return next;
+// The condition of a row with a repaired bit or none, whose bits 23 and 22 agree or disagree.
+fn condition(bit: Option<u32>, disagree: bool) -> Condition {
+    match (bit, disagree) {
+        (None, false) => Condition::Clean,
+        (None, true) => Condition::FlagWorn,
+        (Some(place), false) => Condition::Repaired(place),
+        (Some(place), true) => Condition::FlagWornRepaired(place),
     }
-    next.numbers[at] = own;
-    next
 }
 
-fn scanned(scan: Scan, byte: u8) -> Scan {
-    if byte == b' ' || byte == b':' {
-        return ended(scan, byte);
-    }
-    let own = digit(byte);
-    if own < 16 {
-        return with_digit(scan, own);
-    }
-    let mut next = scan;
-    next.inside = true;
-    next.hex = byte == b'x';
-    next
-}
-
-// The numbers of a part of a line, decimal or, after 0x, hexadecimal.
-fn numbers(part: &[u8]) -> [u32; 12] {
-    let mut scan = Scan {
-        numbers: [NONE; 12],
-        at: 0,
-        hex: false,
-        inside: false,
-    };
-    let mut i = 0;
-    while i < part.len() {
-        scan = scanned(scan, part[i]);
-        i += 1;
-    }
-    scan.numbers
-}
-
+// The numbers in the order of the input's head. What the line leaves out is 0, clean, plain, and 0 pulses.
 pub fn read_line(part: &[u8]) -> Said {
-    let n = numbers(part);
+    let [
+        first,
+        second,
+        third,
+        fourth,
+        number,
+        value,
+        bit,
+        pulses,
+        left,
+        polarity,
+        disagree,
+        tally,
+    ] = numbers(part);
+    let must = Answer {
+        number,
+        value: stated(value).unwrap_or(0),
+        condition: condition(stated(bit), disagree == 1),
+        polarity: if polarity == 1 {
+            Polarity::Inverted
+        } else {
+            Polarity::Plain
+        },
+        place: 0,
+        pulses: stated(pulses).unwrap_or(0),
+    };
     Said {
-        first: n[0],
-        second: n[1],
-        third: n[2],
-        fourth: n[3],
-        number: n[4],
-        value: n[5],
-        bit: n[6],
-        pulses: n[7],
-        left: n[8],
-        polarity: n[9],
-        disagree: n[10],
-        tally: n[11],
+        given: [first, second, third, fourth],
+        must,
+        left: stated(left),
+        tally: stated(tally),
     }
 }

@@ -13,41 +13,26 @@ pub fn open() -> State {
     state
 }
 
-fn with_secure(state: State, page: u32, level: u32) -> State {
-    let mut next = state;
-    let at = (page % 64) as usize;
-    next.secure[at] = (level % 256) as u8;
-    next
-}
-
-fn with_nonsecure(state: State, page: u32, level: u32) -> State {
-    let mut next = state;
-    let at = (page % 64) as usize;
-    next.nonsecure[at] = (level % 256) as u8;
-    next
-}
-
-fn with_bootloader(state: State, page: u32, level: u32) -> State {
-    let mut next = state;
-    let at = (page % 64) as usize;
-    next.bootloader[at] = (level % 256) as u8;
-    next
-}
-
 // With a level in a lock domain.
 pub fn with_level(state: State, domain: u32, page: u32, level: u32) -> State {
-    match domain {
-        0 => with_secure(state, page, level),
-        1 => with_nonsecure(state, page, level),
-        _ => with_bootloader(state, page, level),
-    }
+    let mut next = state;
+    let at = (page % 64) as usize;
+    let levels = match domain {
+        0 => &mut next.secure,
+        1 => &mut next.nonsecure,
+        _ => &mut next.bootloader,
+    };
+    levels[at] = (level % 256) as u8;
+    next
 }
 
 // With the three levels of a page.
-pub fn with_levels(state: State, page: u32, secure: u32, nonsecure: u32, bootloader: u32) -> State {
-    let locked = with_secure(state, page, secure);
-    let both = with_nonsecure(locked, page, nonsecure);
-    with_bootloader(both, page, bootloader)
+pub fn with_levels(state: State, page: u32, levels: [u32; 3]) -> State {
+    let mut next = state;
+    for (domain, level) in (0..).zip(levels) {
+        next = with_level(next, domain, page, level);
+    }
+    next
 }
 
 pub fn with_indexes(state: State, page: u32, write: u32, read: u32, nokey: u32) -> State {
@@ -60,25 +45,18 @@ pub fn with_indexes(state: State, page: u32, write: u32, read: u32, nokey: u32) 
 }
 
 // With key k, 1 to 6.
-pub fn with_key(state: State, k: u32, words: [u16; 8], valid: u32, whole: u32) -> State {
+pub fn with_key(state: State, k: u32, key: Key) -> State {
     if k < 1 {
         return state;
     }
-    let at = ((k - 1) % 6) as usize;
-    let key = Key {
-        words,
-        valid: valid == 1,
-        whole: whole == 1,
-    };
     let mut next = state;
-    next.keys[at] = key;
+    next.keys[((k - 1) % 6) as usize] = key;
     next
 }
 
 pub fn with_tally(state: State, page: u32, count: u32) -> State {
     let mut next = state;
-    let at = (page % 64) as usize;
-    next.tallies[at] = (count % 65536) as u16;
+    next.tallies[(page % 64) as usize] = (count % 65536) as u16;
     next
 }
 

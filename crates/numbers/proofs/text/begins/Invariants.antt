@@ -1,6 +1,0 @@
--- Each turn takes one byte.
-use Rattle.std.proofs.Common.{◌-◌, length}
-use Rattle.numbers.proofs.text.begins.Given as goal
-
-abbrev pub decreases-loop-i : goal.decreases-loop-i
-decreases-loop-i l = length l.word - l.i
