@@ -11,8 +11,10 @@ use lib.Dec.{eqb, ltb, leb}
 use lib.ListN.{length}
 use Rattle.std.specs.Prelude.{if◌then◌else◌}
 use Rattle.form.specs.Entries.{byte_at, two_at, count_of, entries_from}
-use Rattle.form.specs.Faults.{fault_number, ◌otherwise◌, rule_of, Fault}
-use Rattle.form.proofs.Faulty.{fault_stops, fault_next}
+use Rattle.form.specs.Faults.{Sound, ◌otherwise◌, rule_of, Fault}
+use Rattle.form.specs.Said.{found}
+use Rattle.form.specs.declared.faults.Fault.{Fault as Found}
+use Rattle.form.proofs.Judged.{stops, goes_on}
 use Rattle.lead.specs.Early.{came, spoils, unknown_version, large_count, head_brought, entry_faults, past_brought, brought}
 use Rattle.lead.specs.Notes.{begun_before, so_far, ended_in}
 use Rattle.lead.specs.declared.notes.Note.{Note}
@@ -73,12 +75,12 @@ module _ (area : List ℕ) (note : Note) (room : 3079 ≤ length area) (least st
         same.2,
       )
 
-  pub head_answers : (fault_number head ≡ 0 → ⊥) → brought least job start stop ≡ head
-  head_answers some = by_area ∙ fault_stops head (entries otherwise past) some
+  pub head_stops : (fault : Found) → found fault ≡ head → brought least job start stop ≡ found fault
+  head_stops fault some = by_area ∙ stops fault head (entries otherwise past) some
 
-  module _ (none : fault_number head ≡ 0) where
-    pub entries_answer : (fault_number entries ≡ 0 → ⊥) → brought least job start stop ≡ entries
-    entries_answer some = by_area ∙ fault_next head (entries otherwise past) none ∙ fault_stops entries past some
+  module _ (none : Sound ≡ head) where
+    pub entries_stop : (fault : Found) → found fault ≡ entries → brought least job start stop ≡ found fault
+    entries_stop fault some = by_area ∙ goes_on head (entries otherwise past) none ∙ stops fault entries past some
 
-    pub past_answers : fault_number entries ≡ 0 → brought least job start stop ≡ past
-    past_answers no_fault = by_area ∙ fault_next head (entries otherwise past) none ∙ fault_next entries past no_fault
+    pub past_answers : Sound ≡ entries → brought least job start stop ≡ past
+    past_answers no_fault = by_area ∙ goes_on head (entries otherwise past) none ∙ goes_on entries past no_fault

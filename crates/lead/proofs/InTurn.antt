@@ -9,7 +9,9 @@ use lib.Dec.{eqb}
 use Rattle.std.specs.Prelude.{if◌then◌else◌}
 use Rattle.form.specs.Entries.{entry_at, entries_from}
 use Rattle.form.specs.Faults.{fault_number, ◌otherwise◌, form_fault, row_fault, Fault, Sound}
-use Rattle.form.proofs.Faulty.{fault_stops, fault_next}
+use Rattle.form.specs.Said.{found}
+use Rattle.form.specs.declared.faults.Fault.{Fault as Found}
+use Rattle.form.proofs.Judged.{stops, goes_on}
 use Rattle.form.proofs.Upward.{next_left}
 use Rattle.lead.specs.Early.{entry_faults}
 
@@ -34,11 +36,11 @@ module _ (job : List ℕ) (last i : ℕ) (h : i < last) (version least : ℕ) wh
   unfolding entry_faults
   in_turn_lem = rw (next_left job last i h) (grouped (form_fault i (entry_at job i)) (row_fault version i least (entry_at job i)) others)
 
-  pub entry_stops : (fault_number own ≡ 0 → ⊥) → entry_faults version i least (entries_from job i (last - i)) ≡ own
-  entry_stops some = in_turn_lem ∙ fault_stops own others some
+  pub entry_stops : (fault : Found) → found fault ≡ own → entry_faults version i least (entries_from job i (last - i)) ≡ found fault
+  entry_stops fault some = in_turn_lem ∙ stops fault own others some
 
-  pub entry_next : fault_number own ≡ 0 → entry_faults version i least (entries_from job i (last - i)) ≡ others
-  entry_next none = in_turn_lem ∙ fault_next own others none
+  pub entry_goes_on : Sound ≡ own → entry_faults version i least (entries_from job i (last - i)) ≡ others
+  entry_goes_on none = in_turn_lem ∙ goes_on own others none
 
 -- where none is left
 pub none_left : (job : List ℕ) (last i version least : ℕ) → last ≤ i → entry_faults version i least (entries_from job i (last - i)) ≡ Sound

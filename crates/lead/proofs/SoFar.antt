@@ -1,6 +1,6 @@
 -- The file so far, byte by byte: the entry begun stands as the note has it, and all else as the area has it.
 -- Assumes nothing.
-use mathlib.Core.Path.{◌≡◌, refl, ◌∙◌}
+use mathlib.Core.Path.{◌≡◌, refl, sym, ap, ◌∙◌}
 use mathlib.Core.Bool.{Bool, true, false}
 use mathlib.Core.List.{List}
 use mathlib.Core.Logic.{◌⊎◌, inl, inr}
@@ -14,8 +14,10 @@ use Rattle.form.specs.Entries.{byte_at, version_of, count_of, entry_at}
 use Rattle.form.specs.Faults.{marked}
 use Rattle.form.proofs.Putting.{before_stays, after_stays, put_stands}
 use Rattle.form.proofs.ReadBack.{entry_alike, head_alike}
-use Rattle.lead.specs.Notes.{Fits, over}
+use Rattle.lead.specs.Notes.{begun_before, Fits, over, so_far}
+use Rattle.lead.specs.declared.notes.Note.{Note}
 use Rattle.lead.specs.declared.so_far.Begun.{Begun}
+use Rattle.lead.proofs.Counts.{before_fits}
 
 module _ (area : List ℕ) (begun : Begun) (fits : Fits area begun) where
   abbrev first : ℕ
@@ -54,3 +56,22 @@ module _ (area : List ℕ) (begun : Begun) (fits : Fits area begun) where
   -- and the head
   pub head_else : (marked (over area begun) ≡ marked area) × (version_of (over area begun) ≡ version_of area) × (count_of (over area begun) ≡ count_of area)
   head_else = head_alike (over area begun) area (λ place low. byte_else place (inl (omega arith)))
+
+-- of an area with room the same, by the entry begun before a chunk
+module _ (area : List ℕ) (note : Note) (room : 3079 ≤ length area) (begun : Begun) (is : begun ≡ begun_before area note) where
+  begun_fits : Fits area begun
+  begun_fits = rw is (before_fits area note room)
+
+  same_file : over area begun ≡ so_far area note
+  same_file = ap (over area) is
+
+  pub byte_of_note : (place i : ℕ) → length begun.part ≡ 8 → place ≡ 7 + 6 * begun.index + i → i < begun.bytes
+      → byte_at (so_far area note) place ≡ byte_at begun.part i
+  byte_of_note place i long e h = ap (λ (file : List ℕ). byte_at file place) (sym same_file) ∙ byte_begun area begun begun_fits place i long e h
+
+  pub byte_of_area : (place : ℕ) → (place < 7 + 6 * begun.index) ⊎ (7 + 6 * begun.index + begun.bytes ≤ place)
+      → byte_at (so_far area note) place ≡ byte_at area place
+  byte_of_area place else = ap (λ (file : List ℕ). byte_at file place) (sym same_file) ∙ byte_else area begun begun_fits place else
+
+  pub entry_of_area : (i : ℕ) → (i ≡ begun.index → ⊥) → entry_at (so_far area note) i ≡ entry_at area i
+  entry_of_area i other = ap (λ (file : List ℕ). entry_at file i) (sym same_file) ∙ entry_else area begun begun_fits i other

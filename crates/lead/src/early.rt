@@ -1,33 +1,69 @@
 // The early word of a chunk: the first fault among what its bytes bring to an end (request 2026-01).
-ghost use Rattle.std.specs.Prelude.{◌≡◌, ◌-◌, ◌≤◌, ◌<◌, length};
+ghost use Rattle.std.specs.Prelude.{◌≡◌, ◌-◌, ◌≤◌, ◌<◌};
 ghost use Rattle.form.specs.Entries.{entries_from};
 ghost use Rattle.form.specs.Faults.{◌otherwise◌, form_fault, row_fault, rule_of};
+ghost use Rattle.form.specs.Said.{said};
 ghost use Rattle.lead.specs.Early as spec;
 ghost use Rattle.lead.specs.Notes as notes;
 
-use crate::notes::{AREA_BYTES, Note, ended_in, start_of, stop_of};
-use crate::so_far::{Begun, begun_before, entry_so_far};
+use crate::notes::{AREA_BYTES, Note, ended_in};
+use crate::so_far::FileSoFar;
 use form::entries::{Entry, byte_at, count_of, version_of};
-use form::faults::{Fault, MOST_ENTRIES, fault_number, form_fault, row_fault};
+use form::faults::{Fault, MOST_ENTRIES, form_fault, row_fault};
 
-// Whether the byte at a place came, of those from a start up to a stop.
-fn came(start: u32, stop: u32, place: u32) -> bool
-    ensures { result ≡ spec.came start stop place }
-{
-    if place < start {
-        return false;
-    }
-    place < stop
+// What came of a file: the bytes of its area from a start up to a stop.
+#[derive(Clone, Copy)]
+struct Came<'a> {
+    area: &'a [u8],
+    start: u32,
+    stop: u32,
 }
 
-// Whether a byte of the mark came and is another.
-fn spoils(area: &[u8], start: u32, stop: u32, place: u32, byte: u32) -> bool
-    ensures { result ≡ spec.spoils area.now start stop place byte }
-{
-    if came(start, stop, place) {
-        return byte_at(area, place as usize) != byte;
+impl<'a> Came<'a> {
+    // Whether the byte at a place came.
+    fn has(&self, place: u32) -> bool
+        ensures { result ≡ spec.came self.now.start self.now.stop place }
+    {
+        (self.start..self.stop).contains(&place)
     }
-    false
+
+    // Whether a byte of the mark came and is another.
+    fn spoils(&self, place: u32, byte: u32) -> bool
+        ensures { result ≡ spec.spoils self.now.area.now self.now.start self.now.stop place byte }
+    {
+        self.has(place) && byte_at(self.area, place as usize) != byte
+    }
+
+    // Whether the version came and is neither 1 nor 2.
+    fn unknown_version(&self) -> bool
+        ensures { result ≡ spec.unknown_version self.now.area.now self.now.start self.now.stop }
+    {
+        self.has(4) && version_of(self.area) != rule_of(self.area)
+    }
+
+    // Whether the count came and is above 512.
+    fn large_count(&self) -> bool
+        ensures { result ≡ spec.large_count self.now.area.now self.now.start self.now.stop }
+    {
+        self.has(6) && MOST_ENTRIES < count_of(self.area)
+    }
+
+    // The first fault of the head that came to its end.
+    #[tactic(auto, unfolding(crate::specs::Early::head_brought))]
+    fn head_fault(&self) -> Result<(), Fault>
+        ensures { said result ≡ spec.head_brought self.now.area.now self.now.start self.now.stop }
+    {
+        if self.spoils(0, 0x4f) || self.spoils(1, 0x54) || self.spoils(2, 0x4a) {
+            return Err(Fault::Mark);
+        }
+        if self.unknown_version() {
+            return Err(Fault::Version);
+        }
+        if self.large_count() {
+            return Err(Fault::Count);
+        }
+        Ok(())
+    }
 }
 
 // The rule that a file is judged by: that of version 2 where that is its version, and else that of version 1.
@@ -40,125 +76,63 @@ fn rule_of(area: &[u8]) -> u32
     1
 }
 
-// Whether the version came and is neither 1 nor 2.
-fn unknown_version(area: &[u8], start: u32, stop: u32) -> bool
-    ensures { result ≡ spec.unknown_version area.now start stop }
-{
-    if came(start, stop, 4) {
-        return version_of(area) != rule_of(area);
-    }
-    false
-}
-
-// Whether the count came and is above 512.
-fn large_count(area: &[u8], start: u32, stop: u32) -> bool
-    ensures { result ≡ spec.large_count area.now start stop }
-{
-    if came(start, stop, 6) {
-        return MOST_ENTRIES < count_of(area);
-    }
-    false
-}
-
-// The first fault of the head that came to its end.
-fn head_brought(area: &[u8], start: u32, stop: u32) -> Fault
-    ensures { result ≡ spec.head_brought area.now start stop }
-{
-    if spoils(area, start, stop, 0, 0x4f) {
-        return Fault::Mark;
-    }
-    if spoils(area, start, stop, 1, 0x54) {
-        return Fault::Mark;
-    }
-    if spoils(area, start, stop, 2, 0x4a) {
-        return Fault::Mark;
-    }
-    if unknown_version(area, start, stop) {
-        return Fault::Version;
-    }
-    if large_count(area, start, stop) {
-        return Fault::Count;
-    }
-    Fault::Sound
-}
-
 // The fault of an entry: of its form, and then of its row.
-fn entry_fault(version: u32, i: u32, least: u32, entry: Entry) -> Fault
-    ensures { result ≡ form_fault i entry otherwise row_fault version i least entry }
+fn entry_fault(version: u32, i: u32, least: u32, entry: Entry) -> Result<(), Fault>
+    ensures { said result ≡ form_fault i entry otherwise row_fault version i least entry }
 {
-    let form = form_fault(i, entry);
-    if fault_number(form) != 0 {
-        return form;
-    }
+    form_fault(i, entry)?;
     row_fault(version, i, least, entry)
 }
 
 // The first fault of the entries from the one begun up to another.
-fn entry_faults(area: &[u8], begun: Begun, last: u32, version: u32, lowest: u32) -> Fault
-    requires { notes.Fits area.now begun × (last ≤ 512) }
-    ensures { result
-        ≡ spec.entry_faults version begun.index lowest
-        (entries_from (notes.over area.now begun) begun.index (last - begun.index)) }
+fn entry_faults(file: &FileSoFar, last: u32, version: u32) -> Result<(), Fault>
+    requires { last ≤ 512 }
+    ensures { said result
+        ≡ spec.entry_faults version file.now.begun.index file.now.note.least
+        (entries_from (notes.so_far file.now.area.now file.now.note) file.now.begun.index (last - file.now.begun.index)) }
 {
-    let mut least = lowest;
-    let mut i = begun.index;
-    while i < last {
-        let entry = entry_so_far(area, begun, i);
-        let fault = entry_fault(version, i, least, entry);
-        if fault_number(fault) != 0 {
-            return fault;
-        }
+    let mut least = file.note.least;
+    for i in file.begun.index..last {
+        let entry = file.entry(i);
+        entry_fault(version, i, least, entry)?;
         least = entry.row + 1;
-        i += 1;
     }
-    Fault::Sound
+    Ok(())
 }
 
 // The fault of a byte past the entries that the head counts.
-fn past_brought(count: u32, stop: u32) -> Fault
+fn past_brought(count: u32, stop: u32) -> Result<(), Fault>
     requires { count < 65536 }
-    ensures { result ≡ spec.past_brought count stop }
+    ensures { said result ≡ spec.past_brought count stop }
 {
     if 7 + 6 * count < stop {
-        return Fault::Length;
+        return Err(Fault::Length);
     }
-    Fault::Sound
-}
-
-// The first fault among what the bytes up to a stop bring to an end.
-fn brought(area: &[u8], note: Note, stop: u32) -> Fault
-    requires { (3079 ≤ length area.now) × (stop ≤ 3080) }
-    ensures { result ≡ spec.brought note.least (notes.so_far area.now note) (notes.start_of note) stop }
-{
-    let head = head_brought(area, start_of(note.counted), stop);
-    if fault_number(head) != 0 {
-        return head;
-    }
-    let count = count_of(area);
-    let last = ended_in(count, stop);
-    let faults = entry_faults(
-        area,
-        begun_before(area, note),
-        last,
-        rule_of(area),
-        note.least,
-    );
-    if fault_number(faults) != 0 {
-        return faults;
-    }
-    past_brought(count, stop)
+    Ok(())
 }
 
 // The first fault that a chunk, whose bytes the area has, brings to its end.
-pub fn early_fault(area: &[u8], note: Note, chunk: &[u8]) -> Fault
-    ensures { result ≡ spec.early_fault area.now note chunk.now }
+pub(crate) fn brought(file: &FileSoFar, chunk: &[u8]) -> Result<(), Fault>
+    ensures { said result ≡ spec.early_fault file.now.area.now file.now.note chunk.now }
+{
+    if chunk.is_empty() {
+        return Ok(());
+    }
+    let area = file.area;
+    let start = file.note.start();
+    let stop = file.note.stop(chunk);
+    Came { area, start, stop }.head_fault()?;
+    let count = count_of(area);
+    entry_faults(file, ended_in(count, stop), rule_of(area))?;
+    past_brought(count, stop)
+}
+
+// The same, of any area: one that has no room takes no chunk.
+pub fn early_fault(area: &[u8], note: Note, chunk: &[u8]) -> Result<(), Fault>
+    ensures { said result ≡ spec.early_fault area.now note chunk.now }
 {
     if area.len() < AREA_BYTES as usize {
-        return Fault::Sound;
+        return Ok(());
     }
-    if chunk.len() == 0 {
-        return Fault::Sound;
-    }
-    let start = start_of(note.counted);
-    brought(area, note, stop_of(start, chunk))
+    brought(&FileSoFar::before(area, note), chunk)
 }

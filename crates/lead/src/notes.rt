@@ -1,5 +1,5 @@
 // The note of a job that comes in chunks: what has come of the file (request 2026-01).
-ghost use Rattle.std.specs.Prelude.{◌≡◌, ◌+◌, min, length};
+ghost use Rattle.std.specs.Prelude.{◌≡◌};
 ghost use Rattle.lead.specs.Notes as spec;
 
 use form::faults::MOST_ENTRIES;
@@ -9,7 +9,7 @@ pub type Part = [u8; 8];
 
 // What is kept between two chunks: the bytes counted, 3,080 for any more; the lowest row that may come next; the entry begun.
 #[repr(C)]
-#[derive(Clone, Copy)]
+#[derive(Clone, Copy, Debug, PartialEq, Eq)]
 pub struct Note {
     pub counted: u32,
     pub least: u32,
@@ -33,58 +33,35 @@ impl Note {
             part: [0; 8],
         }
     }
-}
 
-// Where a chunk starts in the file, by the bytes that a note counts.
-pub fn start_of(counted: u32) -> u32
-    ensures { result ≡ min counted 3080 }
-{
-    if MOST_COUNTED < counted {
-        return MOST_COUNTED;
+    // Where a chunk starts in the file, by the bytes that the note counts.
+    pub fn start(self) -> u32
+        ensures { result ≡ spec.start_of self }
+    {
+        self.counted.min(MOST_COUNTED)
     }
-    counted
-}
 
-// Where a chunk stops in the file that starts at a place.
-pub fn stop_of(start: u32, chunk: &[u8]) -> u32
-    ensures { result ≡ min (start + length chunk.now) 3080 }
-{
-    if MOST_COUNTED <= start {
-        return MOST_COUNTED;
+    // And where it stops.
+    pub fn stop(self, chunk: &[u8]) -> u32
+        ensures { result ≡ spec.stop_of self chunk.now }
+    {
+        (self.start() as usize + chunk.len()).min(MOST_COUNTED as usize) as u32
     }
-    let room = MOST_COUNTED - start;
-    if room as usize <= chunk.len() {
-        return MOST_COUNTED;
-    }
-    start + (chunk.len() as u32)
 }
 
 // How many of `count` entries end among the first bytes of a file.
 pub fn ended_in(count: u32, bytes: u32) -> u32
     ensures { result ≡ spec.ended_of count bytes }
 {
-    if bytes < 7 {
-        return 0;
-    }
-    let whole = (bytes - 7) / 6;
-    if count < whole {
-        return count;
-    }
-    whole
+    (bytes.saturating_sub(7) / 6).min(count)
 }
 
 // How many bytes of the next one are among them.
 pub fn begun_in(count: u32, bytes: u32) -> u32
     ensures { result ≡ spec.begun_of count bytes }
 {
-    if bytes < 7 {
-        return 0;
+    if bytes < 7 + 6 * count.min(MOST_ENTRIES) {
+        return bytes.saturating_sub(7) % 6;
     }
-    if MOST_ENTRIES < (bytes - 7) / 6 + 1 {
-        return 0;
-    }
-    if count < (bytes - 7) / 6 + 1 {
-        return 0;
-    }
-    (bytes - 7) % 6
+    0
 }

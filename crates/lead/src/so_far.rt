@@ -1,117 +1,109 @@
 // The file so far: as the area has it, but for the entry begun before a chunk, which the note has (request 2026-01).
-ghost use Rattle.std.specs.Prelude.{◌≡◌, ◌+◌, ◌<◌, length};
-ghost use Rattle.form.specs.Entries.{byte_at, two_at, entry_at};
+ghost use Rattle.std.specs.Prelude.{◌≡◌, ◌+◌, ◌^◌, ◌≤◌, ◌<◌, length};
+ghost use Rattle.form.specs.Entries.{byte_at, entry_at};
 ghost use Rattle.lead.specs.Notes as spec;
 
-use crate::notes::{Note, Part, begun_in, ended_in, start_of};
-use form::entries::{Entry, byte_at, count_of, entry_at};
+use crate::notes::{Note, Part, begun_in, ended_in};
+use form::entries::{ByteSource, Entry, byte_at, count_of, entry_at, entry_from, two_at};
 
 // An entry begun: its index, how many of its bytes came before, and these.
-#[derive(Clone, Copy)]
+#[derive(Clone, Copy, Debug, PartialEq, Eq)]
 pub struct Begun {
     pub index: u32,
     pub bytes: u32,
     pub part: Part,
 }
 
-// The entry begun before a chunk.
-pub fn begun_before(area: &[u8], note: Note) -> Begun
-    ensures { result ≡ spec.begun_before area.now note }
-{
-    let count = count_of(area);
-    let start = start_of(note.counted);
-    let index = ended_in(count, start);
-    let bytes = begun_in(count, start);
-    let part = note.part;
-    Begun { index, bytes, part }
+// An area with room for the longest file, the note before a chunk, and the entry begun then.
+#[derive(Clone, Copy)]
+pub(crate) struct FileSoFar<'a> {
+    pub area: &'a [u8],
+    pub note: Note,
+    pub begun: Begun,
+    ghost room: { 3079 ≤ length area.now },
+    ghost before: { begun ≡ spec.begun_before area.now note },
 }
 
 // One of the bytes that a note has of an entry, of which it has room for eight.
-fn part_at(part: Part, i: u32) -> u32
+fn part_at(part: Part, i: usize) -> u32
+    requires { i < 8 }
     ensures value { result ≡ byte_at part i }
     ensures upper_bound { (result < 256) × (length part ≡ 8) }
 {
-    byte_at(&part, i as usize)
+    part[i] as u32
 }
 
-// The byte at a place.
-pub(crate) fn byte_so_far(area: &[u8], begun: Begun, at: u32) -> u32
-    requires { spec.Fits area.now begun }
-    ensures value { result ≡ byte_at (spec.over area.now begun) at }
-    ensures upper_bound { result < 256 }
-{
-    let first = 7 + 6 * begun.index;
-    if at < first {
-        return byte_at(area, at as usize);
-    }
-    let i = at - first;
-    if begun.bytes <= i {
-        return byte_at(area, at as usize);
-    }
-    let part = begun.part;
-    part_at(part, i)
-}
+// It is read byte by byte, wherever: the bytes of the entry begun are those of the note, and all others the area's.
+impl<'a> ByteSource for FileSoFar<'a> {
+    ghost bytes = { λ file. spec.so_far file.area.now file.note };
 
-// A number of 16 bits, low byte first.
-pub(crate) fn two_so_far(area: &[u8], begun: Begun, at: u32) -> u32
-    requires { spec.Fits area.now begun × (at < 65536) }
-    ensures value { result ≡ two_at (spec.over area.now begun) at }
-    ensures upper_bound { result < 65536 }
-{
-    byte_so_far(area, begun, at) + 256 * byte_so_far(area, begun, at + 1)
-}
+    ghost end = { λ file. 2 ^ 41 };
 
-// The i-th entry. Of all but the one begun the area has every byte.
-pub(crate) fn entry_so_far(area: &[u8], begun: Begun, i: u32) -> Entry
-    requires { spec.Fits area.now begun × (i < 512) }
-    ensures { result ≡ entry_at (spec.over area.now begun) i }
-{
-    if i != begun.index {
-        return entry_at(area, i);
-    }
-    let at = 7 + 6 * i;
-    let row = two_so_far(area, begun, at);
-    let kind = byte_so_far(area, begun, at + 2);
-    let value_at = at + 3;
-    let low = two_so_far(area, begun, value_at);
-    let high = byte_so_far(area, begun, value_at + 2);
-    Entry {
-        row,
-        kind,
-        value: low + 65536 * high,
+    fn byte(&self, at: usize) -> u32 {
+        let first = 7 + 6 * (self.begun.index as usize);
+        if at < first || first + (self.begun.bytes as usize) <= at {
+            return byte_at(self.area, at);
+        }
+        let part = self.begun.part;
+        part_at(part, at - first)
     }
 }
 
-// One of so many bytes from a place on, and a zero behind them.
-fn part_byte(area: &[u8], begun: Begun, at: u32, bytes: u32, i: u32) -> u8
-    requires { spec.Fits area.now begun × (at < 65536) × (i < 8) }
-    ensures { result ≡ spec.part_byte (spec.over area.now begun) at bytes i }
-{
-    if bytes <= i {
-        return 0;
+impl<'a> FileSoFar<'a> {
+    // Before a chunk that a note goes before.
+    pub fn before(area: &'a [u8], note: Note) -> FileSoFar<'a>
+        requires { 3079 ≤ length area.now }
+        ensures { (result.area ≡ area.entry) × (result.note ≡ note) }
+    {
+        let count = count_of(area);
+        let start = note.start();
+        let index = ended_in(count, start);
+        let bytes = begun_in(count, start);
+        let part = note.part;
+        let begun = Begun { index, bytes, part };
+        FileSoFar { area, note, begun }
     }
-    byte_so_far(area, begun, at + i) as u8
-}
 
-// So many bytes from a place on, and zeros behind.
-pub(crate) fn part_so_far(area: &[u8], begun: Begun, at: u32, bytes: u32) -> Part
-    requires { spec.Fits area.now begun × (at < 65536) }
-    ensures { result ≡ spec.part_from (spec.over area.now begun) at bytes }
-{
-    let mut part = [0; 8];
-    let mut i = 0;
-    while i < 8 {
-        part[i as usize] = part_byte(area, begun, at, bytes, i);
-        i += 1;
+    // The i-th entry. Of all but the one begun the area has every byte.
+    pub fn entry(&self, i: u32) -> Entry
+        requires { i < 512 }
+        ensures { result ≡ entry_at (spec.so_far self.now.area.now self.now.note) i }
+    {
+        if i != self.begun.index {
+            return entry_at(self.area, i);
+        }
+        entry_from(self, 7 + 6 * (i as usize))
     }
-    part
-}
 
-// One above the row of an entry.
-#[tactic(auto, unfolding(form::specs::Entries::entry_at))]
-pub(crate) fn above_so_far(area: &[u8], begun: Begun, i: u32) -> u32
-    requires { spec.Fits area.now begun × (i < 512) }
-    ensures { result ≡ (entry_at (spec.over area.now begun) i).row + 1 }
-{
-    two_so_far(area, begun, 7 + 6 * i) + 1
+    // One above the row of an entry.
+    #[tactic(auto, unfolding(form::specs::Entries::entry_at))]
+    pub fn above(&self, i: u32) -> u32
+        requires { i < 512 }
+        ensures { result ≡ (entry_at (spec.so_far self.now.area.now self.now.note) i).row + 1 }
+    {
+        two_at(self, 7 + 6 * (i as usize)) + 1
+    }
+
+    // One of so many bytes from a place on, and a zero behind them.
+    fn part_byte(&self, at: u32, bytes: u32, i: usize) -> u8
+        requires { (at < 65536) × (i < 8) }
+        ensures { result ≡ spec.part_byte (spec.so_far self.now.area.now self.now.note) at bytes i }
+    {
+        if bytes as usize <= i {
+            return 0;
+        }
+        self.byte(at as usize + i) as u8
+    }
+
+    // So many bytes from a place on, and zeros behind.
+    pub fn part_from(&self, at: u32, bytes: u32) -> Part
+        requires { at < 65536 }
+        ensures { result ≡ spec.part_from (spec.so_far self.now.area.now self.now.note) at bytes }
+    {
+        let mut part = [0; 8];
+        for (i, byte) in part.iter_mut().enumerate() {
+            *byte = self.part_byte(at, bytes, i);
+        }
+        part
+    }
 }

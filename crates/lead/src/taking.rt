@@ -4,32 +4,19 @@ ghost use Rattle.form.specs.Writing.{with_bytes};
 ghost use Rattle.lead.specs.Notes as notes;
 ghost use Rattle.lead.specs.Taking as spec;
 
-use crate::early::early_fault;
-use crate::notes::{AREA_BYTES, Note, begun_in, ended_in, start_of, stop_of};
-use crate::so_far::{above_so_far, begun_before, part_so_far};
-use answer::answers::{Answer, refused, told};
+use crate::early::brought;
+use crate::notes::{AREA_BYTES, Note, begun_in, ended_in};
+use crate::so_far::FileSoFar;
+use answer::answers::{Answer, told};
+use answer::refusals::Refusal;
 use form::entries::count_of;
 use form::faults::fault_number;
 
 // What a chunk is answered, and the note after it.
-#[derive(Clone, Copy)]
+#[derive(Clone, Copy, Debug, PartialEq, Eq)]
 pub struct Taken {
     pub answer: Answer,
     pub note: Note,
-}
-
-// How many bytes of a chunk that starts at a place fit below 3,079.
-fn fitting(start: u32, chunk: &[u8]) -> u32
-    ensures { result ≡ length (take (3079 - start) chunk.now) }
-{
-    if AREA_BYTES <= start {
-        return 0;
-    }
-    let room = AREA_BYTES - start;
-    if room as usize <= chunk.len() {
-        return room;
-    }
-    chunk.len() as u32
 }
 
 // Stores a chunk's bytes from a place on, as many as fit below 3,079.
@@ -37,42 +24,39 @@ fn store(area: &mut [u8], start: u32, chunk: &[u8])
     requires { 3079 ≤ length area.old }
     ensures { area.new ≡ with_bytes area.old start (take (3079 - start) chunk.now) }
 {
-    let bytes = fitting(start, chunk);
-    let mut i = 0;
-    while i < bytes {
-        area[(start + i) as usize] = chunk[i as usize];
-        i += 1;
+    if AREA_BYTES <= start {
+        return;
     }
+    let room = AREA_BYTES - start;
+    let at = start as usize;
+    let bytes = chunk.len().min(room as usize);
+    area[at..at + bytes].copy_from_slice(&chunk[..bytes]);
 }
 
 // The note after a chunk whose bytes the area has.
-fn noted(area: &[u8], note: Note, chunk: &[u8]) -> Note
-    requires { 3079 ≤ length area.now }
-    ensures { result ≡ notes.noted (notes.so_far area.now note) note chunk.now }
+fn noted(file: &FileSoFar, chunk: &[u8]) -> Note
+    ensures { result ≡ notes.noted (notes.so_far file.now.area.now file.now.note) file.now.note chunk.now }
 {
-    let start = start_of(note.counted);
-    let stop = stop_of(start, chunk);
+    let note = file.note;
+    let start = note.start();
+    let stop = note.stop(chunk);
     if start == stop {
-        let part = note.part;
         return Note {
             counted: stop,
-            least: note.least,
-            part,
+            ..note
         };
     }
-    let begun = begun_before(area, note);
-    let count = count_of(area);
+    let count = count_of(file.area);
     let ended = ended_in(count, stop);
-    let bytes = begun_in(count, stop);
-    let part = part_so_far(area, begun, 7 + 6 * ended, bytes);
-    if begun.index == ended {
+    let part = file.part_from(7 + 6 * ended, begun_in(count, stop));
+    if file.begun.index == ended {
         return Note {
             counted: stop,
-            least: note.least,
             part,
+            ..note
         };
     }
-    let least = above_so_far(area, begun, ended - 1);
+    let least = file.above(ended - 1);
     Note {
         counted: stop,
         least,
@@ -87,15 +71,14 @@ pub fn take_chunk(area: &mut [u8], note: Note, chunk: &[u8]) -> Taken
 {
     if area.len() < AREA_BYTES as usize {
         return Taken {
-            answer: refused(12),
+            answer: Refusal::NoRoom.into(),
             note,
         };
     }
-    store(area, start_of(note.counted), chunk);
-    let fault = early_fault(area, note, chunk);
-    let next = noted(area, note, chunk);
+    store(area, note.start(), chunk);
+    let file = FileSoFar::before(area, note);
     Taken {
-        answer: told(fault_number(fault)),
-        note: next,
+        answer: told(fault_number(brought(&file, chunk))),
+        note: noted(&file, chunk),
     }
 }
