@@ -1,6 +1,5 @@
 // A text as lines and words: a line ends at its comment, which begins with '#', and blanks part its words.
 ghost use Rattle.std.specs.Prelude.{◌≡◌, ◌≤◌, drop, eqb, length};
-ghost use Rattle.chip.specs.Lists as lists;
 ghost use Rattle.typed.specs.Words as spec;
 
 // A line of a text from another system ends with a carriage return too.
@@ -67,12 +66,4 @@ pub fn word(line: &[u8], n: u32) -> &[u8]
         rest = past_blanks(&rest[first_word(rest).len()..]);
     }
     first_word(rest)
-}
-
-// Whether two texts are the same.
-#[tactic(auto, using(chip::proofs::Same::same_as))]
-pub fn same(a: &[u8], b: &[u8]) -> bool
-    ensures { result ≡ lists.same a.now b.now }
-{
-    a == b
 }
