@@ -3,7 +3,8 @@
 // The script ./otp at the root runs it, and turns the last line that it writes into an exit status.
 #![tactic(auto)]
 
-use console::{ended, usage, word};
+use console::ended::{End, Stop};
+use console::{usage, word};
 use doing::{rehearse, write};
 use help::page;
 use looking::{code, compare, dump, list, wear};
@@ -11,82 +12,41 @@ use making::make;
 use mending::mend;
 use reading::{pages, read};
 use receiving::receive;
+use std::io;
 
 // The page names no file.
-fn help(rt: &HostRuntime) {
+fn help(rt: &HostRuntime) -> Result<End, Stop> {
     if !word::naming(rt) {
-        page::show();
+        page::show(rt)?;
     }
-    ended::answered(0);
+    Ok(End::Answered(0))
 }
 
-fn look(rt: &HostRuntime, command: usize) {
-    if word::is(rt, command, b"code") {
-        code::run(rt);
-        return;
+// Runs the command that is named.
+fn run(rt: &HostRuntime) -> Result<End, Stop> {
+    let mut bytes = [0u8; 16];
+    match word::command_name(rt, &mut bytes) {
+        b"rehearse" => rehearse::run(rt),
+        b"receive" => receive::run(rt),
+        b"write" => write::run(rt),
+        b"make" => make::run(rt),
+        b"repair" => mend::run(rt),
+        b"read" => read::run(rt),
+        b"pages" => pages::run(rt),
+        b"code" => code::run(rt),
+        b"compare" => compare::run(rt),
+        b"dump" => dump::run(rt),
+        b"wear" => wear::run(rt),
+        b"list" => list::run(rt),
+        b"help" | b"--help" | b"-h" => help(rt),
+        _ => usage::no_command(rt),
     }
-    if word::is(rt, command, b"compare") {
-        compare::run(rt);
-        return;
-    }
-    if word::is(rt, command, b"dump") {
-        dump::run(rt);
-        return;
-    }
-    if word::is(rt, command, b"wear") {
-        wear::run(rt);
-        return;
-    }
-    if word::is(rt, command, b"list") {
-        list::run(rt);
-        return;
-    }
-    usage::no_command(rt);
 }
 
-fn show(rt: &HostRuntime, command: usize) {
-    if word::is(rt, command, b"read") {
-        read::run(rt);
-        return;
+// The last line says how the command ended.
+fn main(rt: HostRuntime) -> io::Result<()> {
+    match run(&rt) {
+        Ok(end) | Err(Stop::Ended(end)) => println!(rt; "{end}"),
+        Err(Stop::Screen(error)) => Err(error),
     }
-    if word::is(rt, command, b"pages") {
-        pages::run(rt);
-        return;
-    }
-    look(rt, command);
-}
-
-fn asks_for_help(rt: &HostRuntime, command: usize) -> bool {
-    word::is(rt, command, b"help")
-        || word::is(rt, command, b"--help")
-        || word::is(rt, command, b"-h")
-}
-
-fn main(rt: HostRuntime) {
-    let command = word::command(&rt);
-    if word::is(&rt, command, b"rehearse") {
-        rehearse::run(&rt);
-        return;
-    }
-    if word::is(&rt, command, b"receive") {
-        receive::run(&rt);
-        return;
-    }
-    if word::is(&rt, command, b"write") {
-        write::run(&rt);
-        return;
-    }
-    if word::is(&rt, command, b"make") {
-        make::run(&rt);
-        return;
-    }
-    if word::is(&rt, command, b"repair") {
-        mend::run(&rt);
-        return;
-    }
-    if asks_for_help(&rt, command) {
-        help(&rt);
-        return;
-    }
-    show(&rt, command);
 }

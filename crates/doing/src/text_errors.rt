@@ -1,40 +1,70 @@
 // One line on a text that gives no job: the line's number, its word, and what is wrong with it. With it the command has ended.
-use console::ended;
-use console::text_errors::{at, no_number};
-use screen::print;
-use text::entries::Why;
-use text::jobs::Reading;
+ghost use Rattle.std.specs.Prelude.{IsErrAnd};
+ghost use Rattle.console.specs.Ends.{StopsWith};
 
-fn of_form(why: Why) {
+use console::ended::{End, Stop};
+use console::text_errors::{NO_NUMBER, at};
+use form::faults::{Fault, MOST_ENTRIES};
+use text::entries::Why;
+use text::reading::Reading;
+
+const KIND: &str = "a kind is ecc or raw";
+
+// What is wrong with a word that the text says.
+pub(crate) fn reason(why: Why) -> &'static str {
     match why {
-        Why::Missing => print::line(b"a line has a row, a kind and a value"),
-        Why::Extra => print::line(b"a line has a row, a kind and a value; a comment begins with #"),
-        Why::Number => no_number(),
-        Why::Kind => print::line(b"a kind is ecc or raw"),
-        Why::Version => print::line(b"a version line is 'version 1' or 'version 2'"),
-        Why::NotFirst => print::line(b"a version line stands once, before all entries"),
-        _ => print::line(b"a raw value is at most 16,777,215, 0xffffff"),
+        Why::Missing => "a line has a row, a kind and a value",
+        Why::Extra => "a line has a row, a kind and a value; a comment begins with #",
+        Why::Number => NO_NUMBER,
+        Why::Kind => KIND,
+        Why::RawValue => "a raw value is at most 16,777,215, 0xffffff",
+        Why::Version => "a version line is 'version 1' or 'version 2'",
+        Why::NotFirst => "a version line stands once, before all entries",
     }
 }
 
-// What the library finds.
-fn reason(why: Why) {
-    match why {
-        Why::EccValue => print::line(b"an ECC value is at most 65,535, 0xffff"),
-        Why::High => print::line(b"a version 1 job's rows end at 0xf3f"),
-        Why::Kept => print::line(b"data rows end at 0xf3f, and lock rows begin at 0xf80"),
-        Why::Past => print::line(b"lock rows end at 0xfff"),
-        Why::Coded => print::line(b"an entry of a lock row is raw"),
-        Why::Late => print::line(b"a data row comes before all lock rows"),
-        Why::Order => print::line(b"it is not above the row before it"),
-        Why::Count => print::line(b"a job has at most 512 entries"),
-        _ => of_form(why),
+// What the library finds wrong: at which entry, with which of its words, and why.
+#[derive(Clone, Copy)]
+pub(crate) struct Found {
+    pub entry: u32,
+    pub word: u32,
+    pub why: &'static str,
+}
+
+impl From<Fault> for Found {
+    // Of the faults of a head only the count is one that a text can give.
+    fn from(fault: Fault) -> Found {
+        let (entry, word, why) = match fault {
+            Fault::Kind(entry) => (entry, 1, KIND),
+            Fault::Value(entry) => (entry, 2, "an ECC value is at most 65,535, 0xffff"),
+            Fault::High(entry) => (entry, 0, "a version 1 job's rows end at 0xf3f"),
+            Fault::Kept(entry) => (
+                entry,
+                0,
+                "data rows end at 0xf3f, and lock rows begin at 0xf80",
+            ),
+            Fault::Past(entry) => (entry, 0, "lock rows end at 0xfff"),
+            Fault::Coded(entry) => (entry, 1, "an entry of a lock row is raw"),
+            Fault::Late(entry) => (entry, 0, "a data row comes before all lock rows"),
+            Fault::Order(entry) => (entry, 0, "it is not above the row before it"),
+            _ => (MOST_ENTRIES, 0, "a job has at most 512 entries"),
+        };
+        Found { entry, word, why }
     }
 }
 
 // "otp: 'card.txt': line 3: '0x0c0': it is not above the row before it"
-pub fn line(rt: &HostRuntime, place: usize, text: &[u8], reading: Reading, n: u32, why: Why) {
-    at(rt, place, text, reading.line, reading.start, n);
-    reason(why);
-    ended::file();
+pub(crate) fn line<T>(
+    rt: &HostRuntime,
+    place: usize,
+    text: &[u8],
+    reading: Reading,
+    n: u32,
+    why: &str,
+) -> Result<T, Stop>
+    ensures { IsErrAnd result (StopsWith End.File) }
+{
+    at(rt, place, text, reading.line, reading.start, n)?;
+    println!(rt; "{why}")?;
+    Err(Stop::Ended(End::File))
 }

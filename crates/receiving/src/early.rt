@@ -2,7 +2,7 @@
 use form::entries::count_of;
 use form::faults::Fault;
 use lead::notes::Note;
-use screen::print;
+use std::io;
 use wording::job_refusals;
 
 // So many faults are said, and no more: one byte that is lost on the way can spoil every entry behind it.
@@ -18,18 +18,21 @@ fn known(area: &[u8], before: Note, fault: Fault, said: u32) -> bool {
     }
 }
 
-// Says a fault, where so many were said before it. How many were then.
-pub(crate) fn say(area: &[u8], before: Note, fault: Fault, said: u32) -> u32 {
-    if known(area, before, fault, said) {
-        return said;
+// Says a fault, where so many were said before it. How many were then, with the line that no more are said.
+pub(crate) fn say(
+    rt: &HostRuntime,
+    area: &[u8],
+    before: Note,
+    fault: Fault,
+    said: u32,
+) -> io::Result<u32> {
+    if MOST_SAID < said || known(area, before, fault, said) {
+        return Ok(said);
     }
     if said < MOST_SAID {
-        job_refusals::early(area, fault);
-        return said + 1;
+        job_refusals::early(rt, area, fault)?;
+    } else {
+        println!(rt; "early: further faults are not said")?;
     }
-    if said == MOST_SAID {
-        print::line(b"early: further faults are not said");
-        return said + 1;
-    }
-    said
+    Ok(said + 1)
 }
