@@ -12,6 +12,7 @@ use making::make;
 use mending::mend;
 use reading::{pages, read};
 use receiving::receive;
+use std::env::Env;
 use std::io;
 
 // The page names no file.
@@ -22,10 +23,11 @@ fn help(rt: &HostRuntime) -> Result<End, Stop> {
     Ok(End::Answered(0))
 }
 
-// Runs the command that is named.
+// Runs the command that is named. A name that is longer than any is none.
 fn run(rt: &HostRuntime) -> Result<End, Stop> {
-    let mut bytes = [0u8; 16];
-    match word::command_name(rt, &mut bytes) {
+    let mut name = [0u8; 16];
+    let n = rt.arg(word::command(rt), &mut name).unwrap_or(0);
+    match &name[..n] {
         b"rehearse" => rehearse::run(rt),
         b"receive" => receive::run(rt),
         b"write" => write::run(rt),

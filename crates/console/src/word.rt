@@ -59,13 +59,6 @@ pub fn command(rt: &HostRuntime) -> usize
     if naming(rt) { 2 } else { 1 }
 }
 
-// The command's name, or one of no bytes where none is given, or one longer than any.
-pub fn command_name<'a>(rt: &HostRuntime, bytes: &'a mut [u8; 16]) -> &'a [u8]
-    ensures { SomeWord (λ word. result.now ≡ word) }
-{
-    read(rt, command(rt), bytes)
-}
-
 // Whether a word is an option.
 pub(crate) fn is_option(rt: &HostRuntime, place: usize) -> bool {
     let mut word = [0u8; 16];
