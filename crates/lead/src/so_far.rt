@@ -5,6 +5,7 @@ ghost use Rattle.lead.specs.Notes as spec;
 
 use crate::notes::{Note, Part, begun_in, ended_in};
 use form::entries::{ByteSource, Entry, byte_at, count_of, entry_at, entry_from, two_at};
+use std::array::from_fn;
 
 // An entry begun: its index, how many of its bytes came before, and these.
 #[derive(Clone, Copy, Debug, PartialEq, Eq)]
@@ -100,10 +101,6 @@ impl<'a> FileSoFar<'a> {
         requires { at < 65536 }
         ensures { result ≡ spec.part_from (spec.so_far self.now.area.now self.now.note) at bytes }
     {
-        let mut part = [0; 8];
-        for (i, byte) in part.iter_mut().enumerate() {
-            *byte = self.part_byte(at, bytes, i);
-        }
-        part
+        from_fn(|i| self.part_byte(at, bytes, i))
     }
 }

@@ -1,15 +1,10 @@
--- `lead::so_far::FileSoFar::part_from` meets its contract. The invariant: the places so far are filled.
-use Rattle.std.proofs.Common.{refl, arith}
-use Rattle.chip.specs.Lists.{listed}
-use Rattle.chip.proofs.Lists.{filled_more, filled_all}
+-- `lead::so_far::FileSoFar::part_from` meets its contract: at each place stands what the rule gives there.
+use Rattle.std.proofs.Common.{rules}
+use Rattle.chip.proofs.Made.{made_by}
+use Rattle.lead.specs.Notes.{so_far, part_byte}
 use Rattle.lead.proofs.so_far.FileSoFar.part_from.Goals as goal
 
-pub loop-i-init : goal.loop-i-init
-unfolding listed
-loop-i-init c = (refl, refl)
-
-pub loop-i-preserved : goal.loop-i-preserved
-loop-i-preserved c = filled_more 8 _ c.loop-i.byte-items c.loop-i.i c.part_byte.result c.loop-i-test.true c.part_byte.ensures c.loop-i.invariant
-
 pub returns : goal.returns
-returns c = filled_all 8 _ c.loop-i.byte-items c.loop-i.i (omega arith) c.loop-i.invariant
+returns c =
+    let file = c.args.self.now in
+    made_by _ _ (part_byte (so_far file.area.now file.note) c.args.at c.args.bytes) 8 c.from_fn.result 0 (λ i x f' h k. (search rules, search rules)) c.from_fn.ensures.items
