@@ -1,13 +1,13 @@
 -- The set bits of rows: few, and counted one after the other.
 -- Assumes nothing.
 use mathlib.Core.List.{List, [], ◌∷◌}
-use mathlib.Core.Path.{◌≡◌, refl, sym, ap, ◌∙◌}
-use Prim.Native.Nat.{ℕ, ◌+◌, ◌*◌, ◌≤◌, ◌<◌, zero-le}
+use mathlib.Core.Path.{◌≡◌, refl, ◌∙◌}
+use Prim.Native.Nat.{ℕ, ◌*◌, ◌≤◌, zero-le}
 use native.Mathlib.Nat.{min-le_left}
-use native.Mathlib.Numerals.{add-one}
 use native.Mathlib.Omega.{arith}
-use lib.ListN.{length, get_or, take, drop, length-take, length-drop, length-set}
-use lib.Seq.{drop-cons, get_or-take, get_or-drop, length-take-le, drop-length}
+use lib.ListN.{length, drop, length-take, length-set}
+use Rattle.std.specs.List.{sum_by}
+use Rattle.std.proofs.lemmas.List.Recursion.{is_sum_by}
 use Rattle.row.specs.Code.{set_bits}
 use Rattle.row.proofs.Counts.{ones_le}
 use Rattle.chip.specs.Tallies.{page_rows, bits_of, Gain, with_gain, with_gains}
@@ -28,22 +28,10 @@ page_few rows page =
     let long : length (page_rows rows page) ≤ 64 = rw (length-take 64 (drop (64 * page) rows)) (min-le_left 64 _) in
     omega (arith, bits_few (page_rows rows page))
 
--- of 64 rows from one on, one more is counted
-module _ (rows : List ℕ) (first : ℕ) (inside : first + 64 ≤ length rows) where
-  abbrev counted : List ℕ
-  counted = take 64 (drop first rows)
-
-  long : length counted ≡ 64
-  long = length-take-le 64 (drop first rows) (rw (length-drop first rows) (omega arith))
-
-  pub count_next : (i : ℕ) → i < 64 → bits_of (drop i counted) ≡ set_bits (get_or rows (first + i) 0) + bits_of (drop (i + 1) counted)
-  unfolding bits_of
-  count_next i low =
-      rw (add-one, drop-cons counted i 0 (rw long low), get_or-take 64 (drop first rows) i 0 low, get_or-drop first rows i 0)
-
-  pub count_end : (i : ℕ) → i ≡ 64 → bits_of (drop i counted) ≡ 0
-  unfolding bits_of
-  count_end i all = ap (λ (n : ℕ). bits_of (drop n counted)) (all ∙ sym long) ∙ ap bits_of (drop-length counted)
+-- the set bits of some rows are their sum
+pub bits_summed : (rows : List ℕ) → bits_of rows ≡ sum_by set_bits rows
+unfolding bits_of
+bits_summed rows = is_sum_by bits_of set_bits refl (λ row others. refl) rows
 
 -- there are as many tallies as before
 pub length_gains : (tallies : List ℕ) (gained : List Gain) → length (with_gains tallies gained) ≡ length tallies

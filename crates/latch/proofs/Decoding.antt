@@ -1,29 +1,30 @@
 -- Whether all rows of a key decode, looked at one after the other.
 -- Assumes nothing.
-use mathlib.Core.Path.{◌≡◌, refl}
+use mathlib.Core.Path.{◌≡◌, refl, ap₂, ◌∙◌}
 use mathlib.Core.Bool.{Bool, true, false, ◌&&◌}
-use mathlib.Core.List.{List}
-use Prim.Native.Nat.{ℕ, ◌+◌}
-use native.Mathlib.Numerals.{add-one}
-use borrow.Author.Tests.{eq-eqb, ne_eqb}
+use mathlib.Core.List.{List, [], ◌∷◌}
+use Prim.Native.Nat.{ℕ, zero, suc, ◌+◌}
+use lib.Dec.{eqb}
+use Rattle.std.specs.List.{list_all}
+use Rattle.std.proofs.lemmas.List.Folds.{list_all-append}
+use Rattle.answer.specs.declared.answers.Answer.{Answer}
 use Rattle.decode.specs.Reading.{read_row}
+use Rattle.chip.specs.Lists.{listed}
 use Rattle.chip.specs.Slices.{row_at}
 use Rattle.latch.specs.Resetting.{all_decode}
+
+-- a read is no refusal
+abbrev pub read : Answer → Bool
+read answer = eqb answer.number 0
 
 and_true : (t : Bool) → (t && true) ≡ t
 and_true true = refl
 and_true false = refl
 
-and_false : (t : Bool) → (t && false) ≡ false
-and_false true = refl
-and_false false = refl
-
-pub decodes : (rows : List ℕ) (first n : ℕ) → (read_row (row_at rows (first + n))).number ≡ 0
-    → all_decode rows first (n + 1) ≡ all_decode rows first n
-unfolding all_decode
-decodes rows first n e = rw (add-one, eq-eqb (read_row (row_at rows (first + n))).number 0 e) (and_true (all_decode rows first n))
-
-pub decodes_not : (rows : List ℕ) (first n : ℕ) → ((read_row (row_at rows (first + n))).number ≡ 0 → ⊥)
-    → all_decode rows first (n + 1) ≡ false
-unfolding all_decode
-decodes_not rows first n e = rw (add-one, ne_eqb (read_row (row_at rows (first + n))).number 0 e) (and_false (all_decode rows first n))
+-- all of the answers of some rows are reads exactly if all the rows decode
+pub all_decoded : (rows : List ℕ) (first n : ℕ) → list_all read (listed n (λ i. read_row (row_at rows (first + i)))) ≡ all_decode rows first n
+unfolding listed all_decode
+all_decoded rows first zero = refl
+all_decoded rows first (suc n) =
+    list_all-append read (listed n (λ i. read_row (row_at rows (first + i)))) (read_row (row_at rows (first + n)) ∷ [])
+    ∙ ap₂ ◌&&◌ (all_decoded rows first n) (and_true (read (read_row (row_at rows (first + n)))))

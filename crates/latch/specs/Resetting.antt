@@ -12,6 +12,7 @@ use Rattle.chip.specs.Tallies.{tallies_of}
 use Rattle.chip.specs.declared.state.Key.{Key}
 use Rattle.chip.specs.declared.state.State.{State}
 use Rattle.chip.specs.declared.state.Outcome.{Outcome}
+use Rattle.latch.specs.declared.resetting.LockWord.{LockWord}
 use Rattle.latch.specs.Locks.{voted_byte, write_key_field, read_key_field, no_key_field, secure_field, nonsecure_field, bootloader_field, level_of}
 
 -- no entry is above 16,777,215
@@ -35,6 +36,21 @@ latched_key rows k = record {
   valid = eqb (voted_byte (row_at rows (valid_row k)) % 2) 1;
   whole = all_decode rows (key_row k) 8;
 }
+
+-- what the two rows of a lock word say
+abbrev pub lock_word : ℕ → ℕ → LockWord
+lock_word low high = record {
+  secure = level_of (secure_field high);
+  nonsecure = level_of (nonsecure_field high);
+  bootloader = level_of (bootloader_field high);
+  writekey = write_key_field low;
+  readkey = read_key_field low;
+  nokey = no_key_field low;
+}
+
+-- what the lock word of a page says
+abbrev pub lock_word_of : List ℕ → ℕ → LockWord
+lock_word_of rows page = lock_word (row_at rows (low_lock_row page)) (row_at rows (high_lock_row page))
 
 -- reset latches levels, key indexes, no-key states, keys and valid flags, clears the entered key, and fills the tallies
 unfoldable pub latched : List ℕ → State

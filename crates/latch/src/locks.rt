@@ -2,7 +2,8 @@
 ghost use Rattle.std.specs.Prelude.{◌≡◌};
 ghost use Rattle.latch.specs.Locks as spec;
 
-// The byte that at least two of a row's three copies agree on, bit by bit.
+// The byte that at least two of a row's three copies agree on, bit by bit. It is worked out for all bits at once, and not by `vote`, which
+// takes each place by itself: a reset has 134 such rows.
 pub fn voted_byte(row: u32) -> u32
     ensures { result ≡ spec.voted_byte row }
 {
@@ -16,5 +17,5 @@ pub fn voted_byte(row: u32) -> u32
 pub fn level_of(field: u32) -> u8
     ensures { result ≡ spec.level_of field }
 {
-    if field < 2 { field as u8 } else { 2 }
+    field.min(2) as u8
 }

@@ -1,51 +1,45 @@
--- `latch::resetting::latched_key` meets its contract: one word more is that of its row, and a row that does not decode is remembered.
+-- `latch::resetting::latched_key` meets its contract: each word is that of its row, and the key is whole if all decode.
 -- Assumes nothing.
 use borrow.Author.Rules.{rules}
-use mathlib.Core.Path.{◌≡◌, refl, ap, ◌∙◌, subst}
-use Prim.Native.Nat.{ℕ, ◌+◌, ◌%◌}
-use native.Mathlib.Omega.{arith}
-use lib.ListN.{take, set, length-set}
+use borrow.Author.Tests.{tests}
+use mathlib.Core.List.{List}
+use mathlib.Core.Path.{◌≡◌, ap, ◌∙◌}
+use Prim.Native.Nat.{ℕ, ◌+◌, ◌%◌, ◌^◌}
 use native.Mathlib.Nat.{mod-eq_of_lt}
-use Rattle.permit.specs.Keys.{key_row}
+use lib.Dec.{eqb}
+use lib.ListN.{get_or}
+use Rattle.std.specs.List.{list_all}
+use Rattle.std.proofs.lemmas.Iterator.{YieldsList-from_slice}
+use Rattle.std.proofs.lemmas.Iterator.Search.{all_from_yields_List}
+use Rattle.answer.specs.Answers.{done}
 use Rattle.answer.specs.declared.answers.Answer.{Answer}
 use Rattle.decode.specs.Reading.{read_row}
 use Rattle.decode.proofs.Syndromes.{read_lt}
+use Rattle.permit.specs.Keys.{key_row}
 use Rattle.chip.specs.Lists.{listed}
 use Rattle.chip.specs.Slices.{row_at}
-use Rattle.chip.proofs.Lists.{listed_more, listed_all}
+use Rattle.chip.proofs.Lists.{listed_at}
+use Rattle.chip.proofs.Made.{made_by}
 use Rattle.latch.specs.Resetting.{word_of, all_decode}
-use Rattle.latch.proofs.Decoding.{decodes, decodes_not}
+use Rattle.latch.proofs.Decoding.{all_decoded}
 use Rattle.latch.proofs.resetting.latched_key.Goals as goal
-
-pub loop-i-init : goal.loop-i-init
-unfolding listed all_decode
-loop-i-init c = (search rules, search rules, refl, refl)
-
-pub loop-i-preserved : goal.loop-i-preserved
-loop-i-preserved c =
-    let rows = c.args.rows.now in
-    let first : ℕ = key_row c.args.k in
-    let l = c.loop-i in
-    let answer = c.read_row-answer.ensures in
-    let number : c.read_row-answer.result.number ≡ (read_row (row_at rows (first + l.i))).number =
-    ap (λ (a : Answer). a.number) answer in
-    let word : c.read_row-answer.result.value % 65536 ≡ word_of (row_at rows (first + l.i)) =
-    ap (λ (a : Answer). a.value % 65536) answer ∙ mod-eq_of_lt (read_lt (row_at rows (first + l.i))) in (
-      omega arith,
-      simp length-set l.invariant.1,
-      ap (λ (n : ℕ). take (l.i + 1) (set l.words l.i n)) word
-          ∙ listed_more (λ n. word_of (row_at rows (first + n))) l.words l.i (omega arith) l.invariant.2,
-      search (rules, l.invariant, number, decodes rows first l.i, decodes_not rows first l.i),
-    )
 
 pub returns : goal.returns
 returns c =
     let rows = c.args.rows.now in
     let first : ℕ = key_row c.args.k in
-    let l = c.loop-i in
-    let all : l.i ≡ 8 = omega arith in
-    let words : l.words ≡ listed 8 (λ n. word_of (row_at rows (first + n))) =
-    listed_all (λ n. word_of (row_at rows (first + n))) 8 l.words l.invariant.1
-    (subst (λ (m : ℕ). take m l.words ≡ listed m (λ n. word_of (row_at rows (first + n)))) all l.invariant.2) in
-    let whole : l.whole ≡ all_decode rows first 8 = l.invariant.3 ∙ ap (all_decode rows first) all in
-    simp (words, whole, c.voted_byte.ensures)
+    let rule : ℕ → Answer = λ i. read_row (row_at rows (first + i)) in
+    let answers = c.from_fn-read.result in
+    let read : answers ≡ listed 8 rule =
+    made_by _ _ rule 8 answers done (λ i x f' h k. (search rules, search rules)) c.from_fn-read.ensures.items in
+    let words : c.from_fn.result ≡ listed 8 (λ i. word_of (row_at rows (first + i))) =
+    made_by _ _ (λ i. word_of (row_at rows (first + i))) 8 c.from_fn.result 0
+    (λ i x f' h k.
+    let word : x ≡ (get_or answers i done).value % 2 ^ 16 = search rules in
+    (search rules, word ∙ ap (λ (all : List Answer). (get_or all i done).value % 2 ^ 16) read ∙ ap (λ (answer : Answer). answer.value % 2 ^ 16) (listed_at rule 8 i done h) ∙ mod-eq_of_lt (read_lt (row_at rows (first + i)))))
+    c.from_fn.ensures.items in
+    let whole : c.all.result ≡ list_all (λ (answer : Answer). eqb answer.number 0) answers =
+    all_from_yields_List (λ (answer : Answer). eqb answer.number 0) _ _ c.all.result c.all.ensures.ran (YieldsList-from_slice answers cc) (λ x b q k. search (rules, tests)) in
+    let decoded : c.all.result ≡ all_decode rows first 8 =
+    whole ∙ ap (list_all (λ (answer : Answer). eqb answer.number 0)) read ∙ all_decoded rows first 8 in
+    simp (words, decoded, c.voted_byte.ensures)

@@ -1,40 +1,38 @@
--- `latch::resetting::page_bits` meets its contract: a row adds its set bits, which are 24 at most.
+-- `latch::resetting::page_bits` meets its contract: the bits of the page's rows are summed, and they are few.
 -- Assumes nothing.
-use borrow.Author.Rules.{rules}
-use mathlib.Core.Path.{◌≡◌, ap, ◌∙◌}
-use Prim.Native.Nat.{ℕ, ◌+◌, ◌≤◌}
-use native.Mathlib.Nat.{zero-add}
+use mathlib.Core.Path.{◌≡◌, sym, ap₂, ◌∙◌}
+use mathlib.Core.List.{List}
+use Prim.Native.Nat.{ℕ, ◌+◌, ◌-◌, ◌*◌, ◌≤◌}
 use native.Mathlib.Omega.{arith}
-use lib.ListN.{length}
-use Rattle.chip.specs.Tallies.{bits_of}
-use Rattle.chip.proofs.PageBits.{row_few, count_next, count_end}
+use borrow.Rule.Slice.PartMut.{mid_of}
+use Rattle.std.specs.List.{sum_by}
+use Rattle.row.specs.Code.{set_bits}
+use Rattle.chip.specs.Tallies.{page_rows, bits_of}
+use Rattle.chip.proofs.PageBits.{page_few, bits_summed}
 use Rattle.latch.proofs.resetting.page_bits.Goals as goal
-use Rattle.latch.proofs.resetting.page_bits.Invariants.{counted}
 
-pub loop-i-init : goal.loop-i-init
-loop-i-init c =
-    let inside : c.first_row-first.result + 64 ≤ length c.args.rows.now = rw c.first_row-first.ensures c.requires in
-    (search rules, search rules, zero-add _, inside)
+-- the rows of a page, as the code takes them
+summed : (rows : List ℕ) (page first : ℕ) → first ≡ 64 * page
+    → sum_by set_bits (mid_of first (first + 64 - first) rows) ≡ bits_of (page_rows rows page)
+summed rows page first e =
+    let count : first + 64 - first ≡ 64 = omega arith in
+    ap₂ (λ (from many : ℕ). sum_by set_bits (mid_of from many rows)) e count ∙ sym (bits_summed (page_rows rows page))
 
-pub overflow_add-bits : goal.overflow_add-bits
-overflow_add-bits c =
-    let few : c.set_bits-bits.result ≤ 24 = rw c.set_bits-bits.ensures (row_few _) in
+pub set_bits_of-requires : goal.set_bits_of-requires
+set_bits_of-requires c =
+    let rows = c.args.rows.now in
+    let page : ℕ = c.args.page.number in
+    let few : bits_of (page_rows rows page) ≤ 1536 = page_few rows page in
+    rw (summed rows page c.first_row-first.result c.first_row-first.ensures) (omega arith)
+
+pub overflow_cast-result : goal.overflow_cast-result
+overflow_cast-result c =
+    let rows = c.args.rows.now in
+    let page : ℕ = c.args.page.number in
+    let bits : c.set_bits_of.result ≡ bits_of (page_rows rows page) =
+    c.set_bits_of.ensures ∙ summed rows page c.first_row-first.result c.first_row-first.ensures in
+    let few : bits_of (page_rows rows page) ≤ 1536 = page_few rows page in
     omega arith
 
-pub loop-i-preserved : goal.loop-i-preserved
-loop-i-preserved c =
-    let rows = c.args.rows.now in
-    let first : ℕ = c.first_row-first.result in
-    let l = c.loop-i in
-    let few : c.set_bits-bits.result ≤ 24 = rw c.set_bits-bits.ensures (row_few _) in
-    let next = count_next rows first l.invariant.3 l.i (omega arith) in
-    (omega arith, omega arith, omega (arith, c.set_bits-bits.ensures), l.invariant.3)
-
 pub returns : goal.returns
-returns c =
-    let rows = c.args.rows.now in
-    let first : ℕ = c.first_row-first.result in
-    let l = c.loop-i in
-    let none = count_end rows first l.invariant.3 l.i (omega arith) in
-    let all : l.bits ≡ bits_of (counted rows first) = omega arith in
-    all ∙ ap (λ (at : ℕ). bits_of (counted rows at)) c.first_row-first.ensures
+returns c = c.set_bits_of.ensures ∙ summed c.args.rows.now c.args.page.number c.first_row-first.result c.first_row-first.ensures
