@@ -1,22 +1,14 @@
 // How many answers were compared, and how many of them differ from what must be.
-ghost use Rattle.std.specs.Prelude.{◌≡◌, ◌-◌};
+ghost use Rattle.std.specs.Prelude.{◌≡◌};
 ghost use Rattle.screen.specs.Tallies as spec;
 
-use crate::print;
+use std::fmt;
 
-#[derive(Clone, Copy)]
+// "12 compared, 0 differ"
+#[derive(Clone, Copy, Debug, PartialEq, Eq)]
 pub struct Tally {
     pub compared: u32,
     pub differ: u32,
-}
-
-pub fn nothing_yet() -> Tally
-    ensures { result ≡ spec.nothing_yet }
-{
-    Tally {
-        compared: 0,
-        differ: 0,
-    }
 }
 
 // No run comes near this count.
@@ -26,10 +18,7 @@ const MOST: u32 = 1000000;
 pub fn sum(count: u32, more: u32) -> u32
     ensures { result ≡ spec.sum count more }
 {
-    if MOST < count {
-        return MOST;
-    }
-    if MOST < more {
+    if MOST < count || MOST < more {
         return MOST;
     }
     count + more
@@ -39,45 +28,42 @@ pub fn sum(count: u32, more: u32) -> u32
 pub fn one_more(count: u32, holds: bool) -> u32
     ensures { result ≡ spec.one_more count holds }
 {
-    if holds {
-        return sum(count, 1);
-    }
-    count
+    if holds { sum(count, 1) } else { count }
 }
 
-// One comparison more.
-pub fn compared(tally: Tally, right: bool) -> Tally
-    ensures { result ≡ spec.compared tally right }
-{
-    Tally {
-        compared: sum(tally.compared, 1),
-        differ: one_more(tally.differ, !right),
+impl Tally {
+    pub fn nothing_yet() -> Tally
+        ensures { result ≡ spec.nothing_yet }
+    {
+        Tally {
+            compared: 0,
+            differ: 0,
+        }
+    }
+
+    // One comparison more.
+    pub fn compared(self, right: bool) -> Tally
+        ensures { result ≡ spec.compared self right }
+    {
+        Tally {
+            compared: sum(self.compared, 1),
+            differ: one_more(self.differ, !right),
+        }
+    }
+
+    // Several comparisons more, of which so many are right.
+    pub fn compared_many(self, right: u32, of: u32) -> Tally
+        ensures { result ≡ spec.compared_many self right of }
+    {
+        Tally {
+            compared: sum(self.compared, of),
+            differ: sum(self.differ, of.saturating_sub(right)),
+        }
     }
 }
 
-// Several comparisons more, of which so many are right.
-pub fn compared_many(tally: Tally, right: u32, of: u32) -> Tally
-    ensures { result ≡ spec.compared_many tally right of }
-{
-    Tally {
-        compared: sum(tally.compared, of),
-        differ: sum(tally.differ, missing(right, of)),
+impl fmt::Display for Tally {
+    fn fmt<W: fmt::Write>(&self, f: &mut fmt::Formatter<W>) -> fmt::Result {
+        write!(f, "{} compared, {} differ", self.compared, self.differ)
     }
-}
-
-fn missing(right: u32, of: u32) -> u32
-    ensures { result ≡ of - right }
-{
-    if right < of {
-        return of - right;
-    }
-    0
-}
-
-pub fn last_line(tally: Tally) {
-    print::text(b"\n");
-    print::number(tally.compared);
-    print::text(b" compared, ");
-    print::number(tally.differ);
-    print::text(b" differ\n");
 }
