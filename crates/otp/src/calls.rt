@@ -14,10 +14,7 @@ ghost use Rattle.maker.specs.Making as making;
 ghost use Rattle.reader.specs.Handing as handing;
 ghost use Rattle.otp.specs.Flat.{flat_answer, flat_outcome, flat_taken, flat_entry};
 
-use crate::flat::{
-    FlatAnswer, FlatEntry, FlatOutcome, FlatTaken, flat_answer, flat_entry, flat_outcome,
-    flat_taken,
-};
+use crate::flat::{FlatAnswer, FlatEntry, FlatOutcome, FlatTaken};
 use access::reads::{read_ecc, read_raw};
 use access::votes::read_vote;
 use burn::writes::{write_ecc, write_raw};
@@ -36,28 +33,28 @@ use repair::pass::repair;
 pub fn otp_reset(rows: &[u32], state: State) -> FlatOutcome
     ensures { result ≡ flat_outcome (resetting.reset rows.now state) }
 {
-    flat_outcome(reset(rows, state))
+    reset(rows, state).into()
 }
 
 // Reads a row as it is.
 pub fn otp_read_raw(rows: &[u32], state: State, caller: u32, row: u32) -> FlatAnswer
     ensures { result ≡ flat_answer (reads.read_raw rows.now state caller row) }
 {
-    flat_answer(read_raw(rows, state, caller, row))
+    read_raw(rows, state, caller, row).into()
 }
 
 // Reads a row with ECC.
 pub fn otp_read_ecc(rows: &[u32], state: State, caller: u32, row: u32) -> FlatAnswer
     ensures { result ≡ flat_answer (reads.read_ecc rows.now state caller row) }
 {
-    flat_answer(read_ecc(rows, state, caller, row))
+    read_ecc(rows, state, caller, row).into()
 }
 
 // Reads the vote of three or eight rows.
 pub fn otp_read_vote(rows: &[u32], state: State, caller: u32, row: u32, count: u32) -> FlatAnswer
     ensures { result ≡ flat_answer (votes.read_vote rows.now state caller row count) }
 {
-    flat_answer(read_vote(rows, state, caller, row, count))
+    read_vote(rows, state, caller, row, count).into()
 }
 
 // Burns the bits of a value into a row.
@@ -71,7 +68,7 @@ pub fn otp_write_raw(
     ensures { (result ≡ flat_outcome (writes.write_raw rows.old state caller row value).outcome)
         × (rows.new ≡ (writes.write_raw rows.old state caller row value).rows) }
 {
-    flat_outcome(write_raw(rows, state, caller, row, value))
+    write_raw(rows, state, caller, row, value).into()
 }
 
 // Burns a value with its code into a row.
@@ -85,7 +82,7 @@ pub fn otp_write_ecc(
     ensures { (result ≡ flat_outcome (writes.write_ecc rows.old state caller row value).outcome)
         × (rows.new ≡ (writes.write_ecc rows.old state caller row value).rows) }
 {
-    flat_outcome(write_ecc(rows, state, caller, row, value))
+    write_ecc(rows, state, caller, row, value).into()
 }
 
 // Burns the lost 1 of each listed row that can be mended, and reports what was found of each.
@@ -94,37 +91,38 @@ pub fn otp_repair(rows: &mut [u32], state: State, list: &[u32], report: &mut [u3
         × (rows.new ≡ (pass.repair rows.old state list.now report.old).left.rows)
         × (report.new ≡ (pass.repair rows.old state list.now report.old).report) }
 {
-    flat_outcome(repair(rows, state, list, report))
+    repair(rows, state, list, report).into()
 }
 
 // Advances a lock.
 pub fn otp_advance(state: State, caller: u32, domain: u32, page: u32, level: u32) -> FlatOutcome
     ensures { result ≡ flat_outcome (latch.advance state caller domain page level) }
 {
-    flat_outcome(advance(state, caller, domain, page, level))
+    advance(state, caller, domain, page, level).into()
 }
 
 // Shows a lock.
 pub fn otp_show(state: State, caller: u32, domain: u32, page: u32) -> FlatAnswer
     ensures { result ≡ flat_answer (latch.show_lock state caller domain page) }
 {
-    flat_answer(show(state, caller, domain, page))
+    show(state, caller, domain, page).into()
 }
 
 // Enters a key.
 pub fn otp_enter_key(state: State, caller: u32, key: &[u8]) -> FlatOutcome
     ensures { result ≡ flat_outcome (latch.enter_key state caller key.now) }
 {
-    flat_outcome(enter_key(state, caller, key))
+    enter_key(state, caller, key).into()
 }
 
 // Judges a job and burns it.
+#[tactic(auto, using(job::proofs::Whole::whole_job))]
 pub fn otp_run_job(rows: &mut [u32], state: State, job: &[u8]) -> FlatOutcome
     ensures { (result ≡ flat_outcome (jobs.run_job rows.old state job.now).outcome)
         × (rows.new ≡ (jobs.run_job rows.old state job.now).rows) }
 {
     // A job is a rehearsal with enough pulses. By way of `run_job` one outcome more would stand on the stack, and no call takes as much.
-    flat_outcome(rehearse(rows, state, job, MOST_PULSES))
+    rehearse(rows, state, job, MOST_PULSES).into()
 }
 
 // Judges a job, and burns it until the pulses of the limit are spent.
@@ -132,7 +130,7 @@ pub fn otp_rehearse(rows: &mut [u32], state: State, job: &[u8], limit: u32) -> F
     ensures { (result ≡ flat_outcome (jobs.rehearse rows.old state job.now limit).outcome)
         × (rows.new ≡ (jobs.rehearse rows.old state job.now limit).rows) }
 {
-    flat_outcome(rehearse(rows, state, job, limit))
+    rehearse(rows, state, job, limit).into()
 }
 
 // Takes a chunk of a job into a lent area, and says early what is wrong with it.
@@ -140,7 +138,7 @@ pub fn otp_take_chunk(area: &mut [u8], note: Note, chunk: &[u8]) -> FlatTaken
     ensures { (result ≡ flat_taken (taking.take_chunk area.old note chunk.now).taken)
         × (area.new ≡ (taking.take_chunk area.old note chunk.now).area) }
 {
-    flat_taken(take_chunk(area, note, chunk))
+    take_chunk(area, note, chunk).into()
 }
 
 // Judges the job that a lent area keeps and burns it.
@@ -148,7 +146,7 @@ pub fn otp_end_job(rows: &mut [u32], state: State, area: &[u8], note: Note) -> F
     ensures { (result ≡ flat_outcome (ending.end_job rows.old state area.now note).outcome)
         × (rows.new ≡ (ending.end_job rows.old state area.now note).rows) }
 {
-    flat_outcome(end_job(rows, state, area, note))
+    end_job(rows, state, area, note).into()
 }
 
 // Makes the job that burns a present image into a wanted one.
@@ -156,12 +154,12 @@ pub fn otp_make_job(present: &[u32], wanted: &[u32], out: &mut [u8]) -> FlatAnsw
     ensures { (result ≡ flat_answer (making.make_job present.now wanted.now out.old).answer)
         × (out.new ≡ (making.make_job present.now wanted.now out.old).out) }
 {
-    flat_answer(make_job(present, wanted, out))
+    make_job(present, wanted, out).into()
 }
 
 // Hands over what stands at a place of a job.
 pub fn otp_next_entry(job: &[u8], at: usize) -> FlatEntry
     ensures { result ≡ flat_entry (handing.handed_at job.now at) }
 {
-    flat_entry(next_entry(job, at))
+    next_entry(job, at).into()
 }

@@ -71,60 +71,64 @@ pub struct FlatEntry {
     pub value: u32,
 }
 
-// An answer as C takes it.
-pub fn flat_answer(answer: Answer) -> FlatAnswer
-    ensures { result ≡ spec.flat_answer answer }
-{
-    let condition = answer.condition;
-    let polarity = answer.polarity;
-    FlatAnswer {
-        number: answer.number,
-        value: answer.value,
-        condition: condition_number(condition),
-        bit: repaired_bit(condition),
-        polarity: polarity_number(polarity),
-        disagree: disagree_number(condition),
-        place: answer.place,
-        pulses: answer.pulses,
+#[tactic(auto, unfolding(crate::specs::Flat::flat_answer))]
+impl From<Answer> for FlatAnswer {
+    ghost from_gives = { λ answer flat. flat ≡ spec.flat_answer answer };
+
+    fn from(answer: Answer) -> FlatAnswer {
+        let condition = answer.condition;
+        let polarity = answer.polarity;
+        FlatAnswer {
+            number: answer.number,
+            value: answer.value,
+            condition: condition_number(condition),
+            bit: repaired_bit(condition),
+            polarity: polarity_number(polarity),
+            disagree: disagree_number(condition),
+            place: answer.place,
+            pulses: answer.pulses,
+        }
     }
 }
 
-// An outcome as C takes it.
-pub fn flat_outcome(outcome: Outcome) -> FlatOutcome
-    ensures { result ≡ spec.flat_outcome outcome }
-{
-    let answer = outcome.answer;
-    let state = outcome.state;
-    FlatOutcome {
-        answer: flat_answer(answer),
-        state,
+#[tactic(auto, unfolding(crate::specs::Flat::flat_outcome))]
+impl From<Outcome> for FlatOutcome {
+    ghost from_gives = { λ outcome flat. flat ≡ spec.flat_outcome outcome };
+
+    fn from(outcome: Outcome) -> FlatOutcome {
+        FlatOutcome {
+            answer: outcome.answer.into(),
+            state: outcome.state,
+        }
     }
 }
 
-// What a chunk is answered, as C takes it.
-pub fn flat_taken(taken: Taken) -> FlatTaken
-    ensures { result ≡ spec.flat_taken taken }
-{
-    let answer = taken.answer;
-    let note = taken.note;
-    FlatTaken {
-        answer: flat_answer(answer),
-        note,
+#[tactic(auto, unfolding(crate::specs::Flat::flat_taken))]
+impl From<Taken> for FlatTaken {
+    ghost from_gives = { λ taken flat. flat ≡ spec.flat_taken taken };
+
+    fn from(taken: Taken) -> FlatTaken {
+        FlatTaken {
+            answer: taken.answer.into(),
+            note: taken.note,
+        }
     }
 }
 
-// What stands at a place of a job, as C takes it.
-pub fn flat_entry(handed: Handed) -> FlatEntry
-    ensures { result ≡ spec.flat_entry handed }
-{
-    let found = handed.found;
-    let entry = found_entry(found);
-    FlatEntry {
-        at: handed.at,
-        number: found_number(found),
-        end: end_number(found),
-        row: entry.row,
-        kind: entry.kind,
-        value: entry.value,
+#[tactic(auto, unfolding(crate::specs::Flat::flat_entry))]
+impl From<Handed> for FlatEntry {
+    ghost from_gives = { λ handed flat. flat ≡ spec.flat_entry handed };
+
+    fn from(handed: Handed) -> FlatEntry {
+        let found = handed.found;
+        let entry = found_entry(found);
+        FlatEntry {
+            at: handed.at,
+            number: found_number(found),
+            end: end_number(found),
+            row: entry.row,
+            kind: entry.kind,
+            value: entry.value,
+        }
     }
 }
