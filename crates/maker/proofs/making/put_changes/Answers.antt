@@ -13,13 +13,13 @@ use Rattle.maker.proofs.making.put_changes.Goals as goal
 
 pub loop-row-init : goal.loop-row-init
 unfolding changes_below with_entries
-loop-row-init c = (omega arith, refl, refl)
+loop-row-init c = record { counted = refl; put = refl }
 
 pub put_change-count-requires : goal.put_change-count-requires
 put_change-count-requires c =
     let a = c.args in
     record {
-      count_bound = omega (arith, c.loop-row.invariant.1, few a.present.now a.wanted.now c.loop-row.row);
+      count_bound = omega (arith, c.loop-row.invariant.counted, few a.present.now a.wanted.now c.loop-row.row);
       row_bound = omega arith;
     }
 
@@ -30,16 +30,16 @@ loop-row-preserved c =
     let w = a.wanted.now in
     let row = c.loop-row.row in
     let change = change_at row (row_at p row) (row_at w row) in
-    let put = c.put_change-count.ensures in (
-      omega arith,
-      put.0 ∙ ap (λ (n : ℕ). n + length change) c.loop-row.invariant.1 ∙ count_more p w row,
-      put.1 ∙ ap (λ (out : List ℕ). with_entries out c.loop-row.count change) c.loop-row.invariant.2
-          ∙ ap (λ (n : ℕ). with_entries (with_entries a.out.now 0 (changes_below p w row)) n change) c.loop-row.invariant.1 ∙ change_more p w a.out.now row,
-    )
+    let put = c.put_change-count.ensures in
+    record {
+      counted = put.0 ∙ ap (λ (n : ℕ). n + length change) c.loop-row.invariant.counted ∙ count_more p w row;
+      put = put.1 ∙ ap (λ (out : List ℕ). with_entries out c.loop-row.count change) c.loop-row.invariant.put
+          ∙ ap (λ (n : ℕ). with_entries (with_entries a.out.now 0 (changes_below p w row)) n change) c.loop-row.invariant.counted ∙ change_more p w a.out.now row;
+    }
 
 pub returns : goal.returns
 returns c =
     let a = c.args in
     let all : c.loop-row.row ≡ 0xf40 = omega arith in
     let every = ap (changes_below a.present.now a.wanted.now) all ∙ all_data a.present.now a.wanted.now in
-    c.loop-row.invariant.2 ∙ ap (with_entries a.out.now 0) every
+    c.loop-row.invariant.put ∙ ap (with_entries a.out.now 0) every
