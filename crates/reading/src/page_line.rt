@@ -1,151 +1,132 @@
 // What the screen of the pages says of one page, on a line of its own (document 01, "Locks", "Keys", "Permission").
-ghost use Rattle.std.specs.Prelude.{◌<◌};
-
 use chip::pages::Page;
-use chip::state::{State, Tallies, counted_index, counted_level, counted_no_key};
+use chip::state::{State, counted_index, counted_level, counted_no_key};
 use permit::permission::row_key_level;
-use screen::print;
-use wording::burnt;
-use wording::rights::{Rights, rights_of};
+use std::fmt;
+use wording::burnt::Bar;
+use wording::rights::{May, rights_of};
 
-// What the screen says of a page. Of each caller: 0 may do nothing, 1 read, 2 read and write, 3 read, and write as the levels of each
-// row's own page allow.
-#[derive(Clone, Copy)]
-pub struct Line {
-    pub secure: u32,
-    pub nonsecure: u32,
-    pub bootloader: u32,
-    pub writekey: u32,
-    pub readkey: u32,
-    pub nokey: bool,
-    pub burnt: u32,
-    pub by_secure: u32,
-    pub by_nonsecure: u32,
-    pub by_bootloader: u32,
+// What a caller may do with the rows of a page.
+#[derive(Clone, Copy, Debug, PartialEq, Eq)]
+enum Use {
+    // The same with each.
+    Alike(May),
+    // Read, and write as the levels of each row's own page allow.
+    ByOwnPage,
 }
 
-// What each caller may do with the rows of a page. The lock rows, from page 62 on, go by the levels of the pages that they lock, and all
-// of one page by one key level: where it is not 0, none of them is written.
-fn rights(state: State, page: u32, first: u32) -> Rights {
-    if page < 62 {
-        return rights_of(state, first);
-    }
-    if row_key_level(state, first) != 0 {
-        return alike(1);
-    }
-    alike(3)
-}
-
-fn alike(may: u32) -> Rights {
-    Rights {
-        secure: may,
-        nonsecure: may,
-        bootloader: may,
+impl fmt::Display for Use {
+    fn fmt<W: fmt::Write>(&self, f: &mut fmt::Formatter<W>) -> fmt::Result {
+        f.write_str(match self {
+            Use::Alike(May::Nothing) => "-/-",
+            Use::Alike(May::Read) => "r/-",
+            Use::Alike(May::ReadAndWrite) => "r/w",
+            Use::ByOwnPage => "r/*",
+        })
     }
 }
 
-// The tally of a page.
-fn tally_of(tallies: Tallies, page: Page) -> u32 {
-    let at = page.number as usize;
-    if 64 <= at {
-        return 0;
-    }
-    tallies[at] as u32
+// What each caller may do with the rows of a page.
+#[derive(Clone, Copy, Debug, PartialEq, Eq)]
+struct Uses {
+    secure: Use,
+    nonsecure: Use,
+    bootloader: Use,
 }
 
-pub(crate) fn line_of(state: State, number: u32) -> Line {
-    let page = Page {
-        number: (number % 64) as u8,
+// The lock rows, from page 62 on, go by the levels of the pages that they lock, and all of one page by one key level: where it is not 0, none
+// of them is written.
+fn uses_of(state: State, page: Page) -> Uses {
+    let first = page.first_row();
+    if page.number < 62 {
+        let rights = rights_of(state, first);
+        return Uses {
+            secure: Use::Alike(rights.secure),
+            nonsecure: Use::Alike(rights.nonsecure),
+            bootloader: Use::Alike(rights.bootloader),
+        };
+    }
+    let each = if row_key_level(state, first) == 0 {
+        Use::ByOwnPage
+    } else {
+        Use::Alike(May::Read)
     };
-    let secure = state.secure;
-    let nonsecure = state.nonsecure;
-    let bootloader = state.bootloader;
-    let writekeys = state.writekey;
-    let readkeys = state.readkey;
-    let nokeys = state.nokey;
-    let tallies = state.tallies;
-    let rights = rights(state, page.number as u32, page.first_row());
-    Line {
-        secure: counted_level(secure, page),
-        nonsecure: counted_level(nonsecure, page),
-        bootloader: counted_level(bootloader, page),
-        writekey: counted_index(writekeys, page),
-        readkey: counted_index(readkeys, page),
-        nokey: counted_no_key(nokeys, page),
-        burnt: tally_of(tallies, page),
-        by_secure: rights.secure,
-        by_nonsecure: rights.nonsecure,
-        by_bootloader: rights.bootloader,
+    Uses {
+        secure: each,
+        nonsecure: each,
+        bootloader: each,
     }
-}
-
-pub(crate) fn same(a: Line, b: Line) -> bool {
-    a.secure == b.secure
-        && a.nonsecure == b.nonsecure
-        && a.bootloader == b.bootloader
-        && a.writekey == b.writekey
-        && a.readkey == b.readkey
-        && a.nokey == b.nokey
-        && a.burnt == b.burnt
-        && a.by_secure == b.by_secure
-        && a.by_nonsecure == b.by_nonsecure
-        && a.by_bootloader == b.by_bootloader
 }
 
 // A key index, or a dash where none is registered.
-fn index(n: u32) {
-    if n == 0 {
-        print::text(b"-     ");
-        return;
-    }
-    print::number_left(n, 6);
-}
+#[derive(Clone, Copy, Debug, PartialEq, Eq)]
+struct Index(u32);
 
-fn no_key(state: bool) {
-    if state {
-        print::text(b"1");
-    } else {
-        print::text(b"0");
+impl fmt::Display for Index {
+    fn fmt<W: fmt::Write>(&self, f: &mut fmt::Formatter<W>) -> fmt::Result {
+        match self.0 {
+            0 => write!(f, "{:<6}", "-"),
+            index => write!(f, "{index:<6}"),
+        }
     }
 }
 
-fn by(may: u32) {
-    match may {
-        0 => print::text(b"-/-"),
-        1 => print::text(b"r/-"),
-        2 => print::text(b"r/w"),
-        _ => print::text(b"r/*"),
+// What the screen says of a page.
+#[derive(Clone, Copy, Debug, PartialEq, Eq)]
+pub(crate) struct Line {
+    secure: u32,
+    nonsecure: u32,
+    bootloader: u32,
+    writekey: Index,
+    readkey: Index,
+    nokey: bool,
+    burnt: u32,
+    uses: Uses,
+}
+
+// The titles of the lines, behind which stand the number and the rows of a page.
+pub(crate) const TITLES: &str =
+    "                    level     key index   no-key                   may
+ page  rows         S  N  B   write read  state  burnt  of 1536    S    N    B";
+
+impl Line {
+    pub(crate) fn of(state: State, page: Page) -> Line {
+        let burnt = state.tallies.get(page.number as usize);
+        Line {
+            secure: counted_level(state.secure, page),
+            nonsecure: counted_level(state.nonsecure, page),
+            bootloader: counted_level(state.bootloader, page),
+            writekey: Index(counted_index(state.writekey, page)),
+            readkey: Index(counted_index(state.readkey, page)),
+            nokey: counted_no_key(state.nokey, page),
+            burnt: burnt.map_or(0, |tally| u32::from(*tally)),
+            uses: uses_of(state, page),
+        }
     }
 }
 
-pub(crate) fn titles() {
-    print::line(b"                    level     key index   no-key                   may");
-    print::line(b" page  rows         S  N  B   write read  state  burnt  of 1536    S    N    B");
-}
-
-// One page on a line of its own.
-pub(crate) fn write(page: u32, line: Line)
-    requires { page < 64 }
-{
-    print::right(page, 5);
-    print::text(b"  ");
-    let first = Page { number: page as u8 }.first_row();
-    print::rows(first, first + 63);
-    print::text(b"  ");
-    print::number_left(line.secure, 3);
-    print::number_left(line.nonsecure, 3);
-    print::number_left(line.bootloader, 4);
-    index(line.writekey);
-    index(line.readkey);
-    no_key(line.nokey);
-    print::right(line.burnt, 11);
-    print::text(b"  ");
-    burnt::bar(line.burnt);
-    print::text(b"   ");
-    by(line.by_secure);
-    print::text(b"  ");
-    by(line.by_nonsecure);
-    print::text(b"  ");
-    by(line.by_bootloader);
-    print::end();
+impl fmt::Display for Line {
+    fn fmt<W: fmt::Write>(&self, f: &mut fmt::Formatter<W>) -> fmt::Result {
+        let Line {
+            secure,
+            nonsecure,
+            bootloader,
+            writekey,
+            readkey,
+            nokey,
+            burnt,
+            uses,
+        } = *self;
+        let no_key = u32::from(nokey);
+        let bar = Bar(burnt);
+        write!(
+            f,
+            "{secure:<3}{nonsecure:<3}{bootloader:<4}{writekey}{readkey}{no_key}"
+        )?;
+        write!(
+            f,
+            "{burnt:>11}  {bar}   {}  {}  {}",
+            uses.secure, uses.nonsecure, uses.bootloader
+        )
+    }
 }
