@@ -15,6 +15,11 @@ use Rattle.answer.specs.declared.refusals.Refusal.{Refusal}
 use Rattle.answer.proofs.Ladders.{refusing, then_rungs}
 use Rattle.answer.proofs.Numbered.{not_done}
 use Rattle.decode.proofs.Undecoded.{read_or_8, eight}
+use Rattle.permit.specs.Permission.{may_read}
+use Rattle.chip.specs.Slices.{row_at}
+use Rattle.chip.specs.declared.state.State.{State}
+use Rattle.access.specs.Judging.{ecc, no_value, row_rungs, call_rungs}
+use Rattle.access.specs.Reads.{read_ecc}
 
 module _ (rungs : List Rung) (some : T (refusing rungs)) (held : ℕ) where
   abbrev number : ℕ
@@ -35,7 +40,7 @@ module _ (rungs : List Rung) (some : T (refusing rungs)) (held : ℕ) where
       go false some = absurd (eqb-false number 0 some (sym (two_steps ∙ rw some) ∙ e))
 
   -- a refusal is one whatever was to be done
-  pub refusal_stays : (refusal : Refusal) → refusal_number refusal ≡ number
+  refusal_stays : (refusal : Refusal) → refusal_number refusal ≡ number
       → refused (refusal_number refusal) ≡ answered with_eight (read_row held)
   refusal_stays refusal e =
       let other : eqb number 0 ≡ false = rw (← e) (not_done refusal) in
@@ -43,7 +48,7 @@ module _ (rungs : List Rung) (some : T (refusing rungs)) (held : ℕ) where
       rw (same, other) (ap refused e)
 
   -- what was read is read on by ECC
-  pub read_on : 0 ≡ number → read_row held ≡ answered with_eight (read_row held)
+  read_on : 0 ≡ number → read_row held ≡ answered with_eight (read_row held)
   read_on e =
       let none : eqb number 0 ≡ true = eq-eqb number 0 (sym e) in
       let same : with_eight ≡ (read_row held).number = two_steps ∙ rw none in
@@ -52,3 +57,17 @@ module _ (rungs : List Rung) (some : T (refusing rungs)) (held : ℕ) where
       own : ((read_row held).number ≡ 0) ⊎ (read_row held ≡ refused 8) → answered (read_row held).number (read_row held) ≡ read_row held
       own (inl done) = rw done
       own (inr eight) = rw eight
+
+-- ---- of the call
+
+module _ (rows : List ℕ) (state : State) (caller row : ℕ) where
+  abbrev rungs_of : List Rung
+  rungs_of = call_rungs rows state caller row ecc no_value (may_read state caller row)
+
+  pub ecc_refused : (refusal : Refusal) → refusal_number refusal ≡ first_of rungs_of → read_ecc rows state caller row ≡ refused (refusal_number refusal)
+  unfolding read_ecc call_rungs row_rungs refusing
+  ecc_refused refusal e = sym (refusal_stays rungs_of tt (row_at rows row) refusal e)
+
+  pub ecc_read : 0 ≡ first_of rungs_of → read_ecc rows state caller row ≡ read_row (row_at rows row)
+  unfolding read_ecc call_rungs row_rungs refusing
+  ecc_read e = sym (read_on rungs_of tt (row_at rows row) e)

@@ -38,6 +38,7 @@ pub fn read_raw(rows: &[u32], state: State, caller: u32, row: u32) -> Answer
 }
 
 // Reads a row with ECC.
+#[tactic(auto, using(crate::proofs::Answering::ecc_refused, crate::proofs::Answering::ecc_read))]
 pub fn read_ecc(rows: &[u32], state: State, caller: u32, row: u32) -> Answer
     ensures { result ≡ spec.read_ecc rows.now state caller row }
 {

@@ -1,7 +1,10 @@
 -- What a call that burns leaves (document 01, "The numbers we answer with"; request 2026-07). It is made nowhere else.
-use Rattle.std.specs.Prelude.{ℕ, List, [], ◌∷◌, eqb, set}
+use Rattle.std.specs.Prelude.{ℕ, List, [], ◌∷◌, Result, Ok, Err, eqb, set}
 use Rattle.answer.specs.Answers.{refused_at, spent}
 use Rattle.std.specs.Prelude.{if◌then◌else◌}
+use Rattle.answer.specs.Refusals.{refusal_number}
+use Rattle.answer.specs.declared.refusals.Refusal.{Refusal}
+use Rattle.row.specs.declared.writing.Burnt.{Burnt}
 use Rattle.answer.specs.declared.answers.Answer.{Answer}
 use Rattle.row.specs.Writing.{Written}
 use Rattle.chip.specs.States.{with_tallies}
@@ -34,3 +37,8 @@ abbrev pub one_row : ℕ → List ℕ → State → ℕ → Written → Left
 one_row number rows state row written =
     if eqb number 0 then burnt state (row gains written.pulses ∷ []) (set rows row written.row) 0 written.pulses
     else kept state rows number 0
+
+-- a write of one row as the code has it: a row burnt, or the refusal
+abbrev pub left_by : List ℕ → State → ℕ → Result Burnt Refusal → Left
+left_by rows state row (Ok done) = burnt state (row gains done.pulses ∷ []) (set rows row done.row) 0 done.pulses
+left_by rows state row (Err refusal) = kept state rows (refusal_number refusal) 0
