@@ -3,10 +3,11 @@ ghost use Rattle.std.specs.Prelude.{◌≡◌};
 ghost use Rattle.reader.specs.Handing as spec;
 
 use form::entries::{Entry, first_entry};
-use form::faults::{fault_number, form_fault};
+use form::faults::form_fault;
 
-// What is handed over: an entry; the end of the bytes; or that no entry stands there, which is 10.
-#[derive(Clone, Copy)]
+// What is handed over: an entry; the end of the bytes; or that no entry stands there, which is 10. It stays an enum of its own: as
+// `Result<Option<Entry>, Refusal>` any refusal could stand where 10 alone can, so that it would be no plainer.
+#[derive(Clone, Copy, Debug, PartialEq, Eq)]
 pub enum Found {
     Entry(Entry),
     End,
@@ -14,35 +15,27 @@ pub enum Found {
 }
 
 // What was found at a place, and the place after it. At the end and at 10 that is the same place.
-#[derive(Clone, Copy)]
+#[derive(Clone, Copy, Debug, PartialEq, Eq)]
 pub struct Handed {
     pub found: Found,
     pub at: usize,
 }
 
 // Hands over what stands at a place. It reads no head, and judges no row.
-#[tactic(auto, using(crate::proofs::Parts::from_there), unfolding(crate::specs::Handing::found_at))]
+#[tactic(auto, using(crate::proofs::Parts::from_there, crate::proofs::Parts::malformed), unfolding(crate::specs::Handing::found_at))]
 pub fn handed_at(job: &[u8], at: usize) -> Handed
     ensures { result ≡ spec.handed_at job.now at }
 {
+    let stays = |found| Handed { found, at };
     if job.len() <= at {
-        return Handed {
-            found: Found::End,
-            at,
-        };
+        return stays(Found::End);
     }
     if job.len() - at < 6 {
-        return Handed {
-            found: Found::Malformed,
-            at,
-        };
+        return stays(Found::Malformed);
     }
     let entry = first_entry(&job[at..]);
-    if fault_number(form_fault(0, entry)) != 0 {
-        return Handed {
-            found: Found::Malformed,
-            at,
-        };
+    if form_fault(0, entry).is_err() {
+        return stays(Found::Malformed);
     }
     Handed {
         found: Found::Entry(entry),

@@ -10,8 +10,7 @@ pub fn found_number(found: Found) -> u32
     ensures { result ≡ spec.found_number found }
 {
     match found {
-        Found::Entry(_) => 0,
-        Found::End => 0,
+        Found::Entry(_) | Found::End => 0,
         Found::Malformed => 10,
     }
 }
@@ -21,20 +20,8 @@ pub fn end_number(found: Found) -> u32
     ensures { result ≡ spec.end_number found }
 {
     match found {
-        Found::Entry(_) => 0,
         Found::End => 1,
-        Found::Malformed => 0,
-    }
-}
-
-// An entry of zeros, where none is handed over.
-fn no_entry() -> Entry
-    ensures { result ≡ spec.no_entry }
-{
-    Entry {
-        row: 0,
-        kind: 0,
-        value: 0,
+        Found::Entry(_) | Found::Malformed => 0,
     }
 }
 
@@ -44,7 +31,10 @@ pub fn found_entry(found: Found) -> Entry
 {
     match found {
         Found::Entry(entry) => entry,
-        Found::End => no_entry(),
-        Found::Malformed => no_entry(),
+        Found::End | Found::Malformed => Entry {
+            row: 0,
+            kind: 0,
+            value: 0,
+        },
     }
 }

@@ -15,37 +15,39 @@ pub struct Reader<'a> {
 // The first entry of a job stands here, behind its head.
 pub const FIRST_ENTRY: usize = 7;
 
-// A reader of a job, at its first entry.
-pub fn start<'a>(job: &'a [u8]) -> Reader<'a>
-    ensures { (result.job ≡ job.entry) × (result.at ≡ 7) }
-{
-    Reader {
-        job,
-        at: FIRST_ENTRY,
+impl<'a> Reader<'a> {
+    // A reader of a job, at its first entry.
+    pub fn start(job: &'a [u8]) -> Reader<'a>
+        ensures { (result.job ≡ job.entry) × (result.at ≡ 7) }
+    {
+        Reader {
+            job,
+            at: FIRST_ENTRY,
+        }
     }
-}
 
-// What stands at the reader's place, which stays where it is.
-pub fn look<'a>(reader: Reader<'a>) -> Handed
-    ensures { result ≡ handed_at reader.entry.job.now reader.entry.at }
-{
-    handed_at(reader.job, reader.at)
-}
+    // What stands at the reader's place, which stays where it is.
+    pub fn look(&self) -> Handed
+        ensures { result ≡ handed_at self.now.job.now self.now.at }
+    {
+        handed_at(self.job, self.at)
+    }
 
-// Hands over what stands at the reader's place. It then stands after an entry; at the end and at 10 it stays put.
-pub fn next<'s, 'a>(reader: &'s mut Reader<'a>) -> Handed
-    ensures { (result ≡ handed_at reader.old.job.now reader.old.at)
-        × (reader.new.job ≡ reader.old.job)
-        × (reader.new.at ≡ (handed_at reader.old.job.now reader.old.at).at) }
-{
-    let handed = handed_at(reader.job, reader.at);
-    reader.at = handed.at;
-    handed
+    // Hands over what stands at the reader's place. It then stands after an entry; at the end and at 10 it stays put.
+    pub fn next(&mut self) -> Handed
+        ensures { (result ≡ handed_at self.old.job.now self.old.at)
+            × (self.new.job ≡ self.old.job)
+            × (self.new.at ≡ (handed_at self.old.job.now self.old.at).at) }
+    {
+        let handed = self.look();
+        self.at = handed.at;
+        handed
+    }
 }
 
 // The same of plain bytes and a place: what a reader there hands over, and where it then stands.
 pub fn next_entry(job: &[u8], at: usize) -> Handed
     ensures { result ≡ handed_at job.now at }
 {
-    look(Reader { job, at })
+    Reader { job, at }.look()
 }
