@@ -1,5 +1,4 @@
 pub mod Lists
-pub mod Orders
 pub mod PageBits
 pub mod Same
 pub mod Made

@@ -21,6 +21,7 @@ fn lowest(bits: u32, n: u32) -> u32
 }
 
 // A row burnt for n pulses, bits upward.
+#[tactic(auto, unfolding(crate::specs::Upward::burnt_upward))]
 pub fn burnt_upward(n: u32, old: u32, row: u32) -> u32
     ensures { result ≡ spec.burnt_upward n old row }
 {

@@ -20,6 +20,7 @@ fn fits(old: u32, row: u32) -> bool
 }
 
 // The pulses that burn a row over an old one: the bits newly set, of the 24.
+#[tactic(auto, unfolding(crate::specs::Writing::pulses))]
 pub fn pulses(old: u32, row: u32) -> u32
     ensures { result ≡ spec.pulses old row }
 {
