@@ -18,7 +18,7 @@ pub type Tallies = [u16; 64];
 
 // A key as reset latched it: its words, its valid flag, and whether all its rows decoded.
 #[repr(C)]
-#[derive(Clone, Copy)]
+#[derive(Clone, Copy, Debug, PartialEq, Eq)]
 pub struct Key {
     pub words: Words,
     pub valid: bool,
@@ -28,7 +28,7 @@ pub struct Key {
 // What the hardware latches at reset, for each page and each key, the key that was entered since, and each page's bits burnt, as they stand.
 // The arrays stand beside each other, and not in a struct of a page, since this is the layout of C's `otp_state`.
 #[repr(C)]
-#[derive(Clone, Copy)]
+#[derive(Clone, Copy, Debug, PartialEq, Eq)]
 pub struct State {
     pub secure: Levels,
     pub nonsecure: Levels,
@@ -66,7 +66,7 @@ impl State {
 }
 
 // What a call that can change the state answers.
-#[derive(Clone, Copy)]
+#[derive(Clone, Copy, Debug, PartialEq, Eq)]
 pub struct Outcome {
     pub answer: Answer,
     pub state: State,
