@@ -9,7 +9,7 @@ use crate::flat::FlatCard;
 use crate::reading::read_card;
 use crate::writing::write_card;
 use chip::state::State;
-use otp::flat::{FlatAnswer, flat_answer};
+use otp::flat::FlatAnswer;
 
 // Reads the card.
 pub fn otp_read_card(rows: &[u32], state: State) -> FlatCard
@@ -29,5 +29,5 @@ pub fn otp_write_card(
     ensures { (result ≡ flat_answer (writing.write_card area.old version width height line).answer)
         × (area.new ≡ (writing.write_card area.old version width height line).area) }
 {
-    flat_answer(write_card(area, version, width, height, line))
+    write_card(area, version, width, height, line).into()
 }
