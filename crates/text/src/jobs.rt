@@ -6,6 +6,7 @@ ghost use Rattle.text.specs.Readings.{read_as};
 ghost use Rattle.text.specs.Steps.{job_line, job_entry};
 
 use crate::reading::{Kept, Reading, Wrong};
+use crate::room::Room;
 use crate::versions::Said;
 use crate::{reading, versions};
 use form::writing::put_entry;
@@ -18,16 +19,17 @@ impl Kept for u8 {
     ghost puts = { λ text reading job. with_entries job reading.count (spec.entry_by (spec.next_of text reading)) };
 
     #[tactic(auto, unfolding(form::specs::Writing::with_entries))]
-    fn step(text: &[u8], job: &mut [u8], reading: Reading) -> Result<Reading, Wrong> {
+    fn step(text: &[u8], job: &mut [u8], room: Room) -> Result<Reading, Wrong> {
+        let reading = room.reading;
         let count = reading.count;
         match versions::read(line_at(text, reading.next), reading.first) {
-            Ok(None) => Ok(reading.passed(text, reading.first, reading.version, count)),
-            Ok(Some(Said::Version(version))) => Ok(reading.passed(text, false, version, count)),
+            Ok(None) => Ok(room.passed(text, reading.first, reading.version, count)),
+            Ok(Some(Said::Version(version))) => Ok(room.passed(text, false, version, count)),
             Ok(Some(Said::Entry(entry))) => {
                 put_entry(job, count, entry);
-                Ok(reading.passed(text, false, reading.version, count + 1))
+                Ok(room.passed(text, false, reading.version, count + 1))
             }
-            Err(wrong) => Err(reading.stopped(wrong)),
+            Err(wrong) => Err(room.stopped(wrong)),
         }
     }
 

@@ -5,4 +5,5 @@ pub mod entries;
 pub mod jobs;
 pub mod lists;
 pub mod reading;
+mod room;
 pub mod versions;

@@ -8,6 +8,7 @@ ghost use Rattle.text.specs.Steps.{list_line, list_row};
 use crate::entries::{Why, WrongWord, has, number, wrong};
 use crate::reading;
 use crate::reading::{Kept, Reading, Wrong};
+use crate::room::Room;
 use chip::slices::put;
 use typed::words::line_at;
 
@@ -35,15 +36,16 @@ impl Kept for u32 {
     ghost puts = { λ text reading list. spec.with_rows list reading.count (spec.row_by (spec.next_listed text reading)) };
 
     #[tactic(auto, unfolding(crate::specs::Lists::with_rows))]
-    fn step(text: &[u8], list: &mut [u32], reading: Reading) -> Result<Reading, Wrong> {
+    fn step(text: &[u8], list: &mut [u32], room: Room) -> Result<Reading, Wrong> {
+        let reading = room.reading;
         let count = reading.count;
         match said_by(line_at(text, reading.next)) {
-            Ok(None) => Ok(reading.passed(text, reading.first, reading.version, count)),
+            Ok(None) => Ok(room.passed(text, reading.first, reading.version, count)),
             Ok(Some(row)) => {
                 put(list, count, row);
-                Ok(reading.passed(text, reading.first, reading.version, count + 1))
+                Ok(room.passed(text, reading.first, reading.version, count + 1))
             }
-            Err(wrong) => Err(reading.stopped(wrong)),
+            Err(wrong) => Err(room.stopped(wrong)),
         }
     }
 

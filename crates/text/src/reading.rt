@@ -1,11 +1,10 @@
 // A text that is read line by line: how far it is read, and the one way in which its lines are gone through.
-ghost use Rattle.std.specs.Prelude.{◌≡◌, ℕ, ◌+◌, ◌≤◌, ◌<◌, List};
+ghost use Rattle.std.specs.Prelude.{◌≡◌, ℕ, ◌+◌, ◌≤◌, List};
 ghost use Rattle.text.specs.Jobs as jobs;
 ghost use Rattle.text.specs.Readings as spec;
-ghost use Rattle.text.specs.Said.{reason};
 
-use crate::entries::{Why, WrongWord};
-use typed::words::next_line;
+use crate::entries::Why;
+use crate::room::Room;
 
 // How far a text is read: the line that was read last, where it and the next begin, whether no line has said anything yet, and the version
 // and the entries or rows so far.
@@ -45,40 +44,6 @@ impl Reading {
         }
     }
 
-    // The line is read: whether no line has said anything yet, the version, and how many entries or rows there are now.
-    #[tactic(auto, unfolding(crate::specs::Jobs::passed))]
-    pub(crate) fn passed(self, text: &[u8], first: bool, version: u32, count: u32) -> Reading
-        requires { self.line < 65537 }
-        ensures { spec.going result ≡ jobs.passed text.now (spec.going self) first version count }
-    {
-        Reading {
-            line: self.line + 1,
-            start: self.next,
-            next: next_line(text, self.next),
-            first,
-            version,
-            count,
-        }
-    }
-
-    // The line is wrong.
-    #[tactic(auto, unfolding(crate::specs::Jobs::stopped))]
-    pub(crate) fn stopped(self, wrong: WrongWord) -> Wrong
-        requires { self.line < 65537 }
-        ensures { spec.ended result ≡ jobs.stopped (spec.going self) wrong.word (reason wrong.why) }
-    {
-        let reading = Reading {
-            line: self.line + 1,
-            start: self.next,
-            ..self
-        };
-        Wrong {
-            reading,
-            word: wrong.word,
-            why: wrong.why,
-        }
-    }
-
     // Whether there is more to read.
     fn goes_on(self, text: &[u8], most: u32) -> bool
         ensures { result ≡ jobs.goes_on text.now most (spec.going self) }
@@ -95,10 +60,9 @@ pub(crate) trait Kept: Copy {
     ghost puts: { List ℕ → jobs.Reading → List Self → List Self };
 
     // Reads one line more.
-    fn step(text: &[u8], kept: &mut [Self], reading: Reading) -> Result<Reading, Wrong>
-        requires { (reading.line < 65537) × (reading.count < 65537) }
-        ensures value { spec.read_as result ≡ by text.now (spec.going reading) }
-        ensures kept_after { kept.new ≡ puts text.now (spec.going reading) kept.old };
+    fn step(text: &[u8], kept: &mut [Self], room: Room) -> Result<Reading, Wrong>
+        ensures value { spec.read_as result ≡ by text.now (spec.going room.reading) }
+        ensures kept_after { kept.new ≡ puts text.now (spec.going room.reading) kept.old };
 
     // A line is one line more, and at most one entry or row.
     ghost one_line: { (text : List ℕ) (reading : jobs.Reading) → (by text reading).line ≡ reading.line + 1 };
@@ -116,7 +80,7 @@ pub(crate) fn read<K: Kept>(text: &[u8], kept: &mut [K], most: u32) -> Result<Re
         if !reading.goes_on(text, most) {
             break;
         }
-        reading = K::step(text, kept, reading)?;
+        reading = K::step(text, kept, Room { reading })?;
     }
     Ok(reading)
 }
