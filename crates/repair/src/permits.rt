@@ -20,6 +20,6 @@ pub(crate) fn writable_pages(state: State) -> [bool; 64]
 pub(crate) fn writable(pages: &[bool], row: u32) -> bool
     ensures { result ≡ spec.writable pages.now row }
 {
-    let page = row / Page::ROWS;
-    pages.get(page as usize).copied().unwrap_or(false)
+    let page = (row / Page::ROWS) as usize;
+    page < pages.len() && pages[page]
 }
