@@ -59,10 +59,7 @@ pub fn byte_at(job: &[u8], at: usize) -> u32
     ensures value { result ≡ spec.byte_at job.now at }
     ensures upper_bound { result < 256 }
 {
-    match job.get(at) {
-        Some(byte) => *byte as u32,
-        None => 0,
-    }
+    if at < job.len() { job[at] as u32 } else { 0 }
 }
 
 // A number of 16 bits, low byte first.
