@@ -1,7 +1,7 @@
 // What the lines of a scene work on: the rows of a chip, its state, and what is prepared for the next call.
 use crate::states;
-use crate::table::Table;
 use chip::state::State;
+use screen::table::Table;
 
 // The rows of a chip and one more, since a slice can be too long.
 pub const ROWS: usize = 4097;

@@ -2,11 +2,11 @@
 // request 2026-05).
 use crate::every_lock::NAMES;
 use crate::states;
-use crate::table::Table;
 use access::reads::{read_ecc, read_raw};
 use access::votes::read_vote;
 use burn::writes::{write_ecc, write_raw};
 use chip::state::State;
+use screen::table::Table;
 use std::{fmt, io};
 
 const PAGE: u32 = 3;

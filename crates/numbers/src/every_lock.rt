@@ -3,10 +3,10 @@ ghost use Rattle.std.specs.Prelude.{◌<◌};
 
 use crate::same::same_state;
 use crate::states;
-use crate::table::Table;
 use answer::answers::{done, refused, told};
 use chip::state::State;
 use lock::calls::{advance, show};
+use screen::table::Table;
 use std::io;
 
 // A caller, or its domain.

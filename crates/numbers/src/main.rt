@@ -5,6 +5,7 @@
 
 mod board;
 mod calls;
+mod columns;
 mod every_level;
 mod every_lock;
 mod names;
@@ -14,13 +15,11 @@ mod said;
 mod same;
 mod scene;
 mod states;
-mod table;
 mod tallies;
 
 use board::Board;
 use io::read_full;
-use screen::tally;
-use table::Table;
+use screen::table::Table;
 
 // The number of the file descriptor that a program reads from.
 const STANDARD_INPUT: i32 = 0;
@@ -44,16 +43,12 @@ fn main(rt: HostRuntime) -> std::io::Result<()> {
     print!(rt; "{LEGEND}")?;
     let mut input = [0u8; 131072];
     let count = read_full(STANDARD_INPUT, &mut input);
-    let mut board = Board::blank(Table {
-        rt: &rt,
-        tally: tally::nothing_yet(),
-    });
+    let mut board = Board::blank(Table::new(&rt));
     board.play(&input[..count])?;
     if count == input.len() {
         println!(rt; "the input may be longer than what was read")?;
     }
     every_lock::all(&mut board.table)?;
     every_level::all(&mut board.table)?;
-    tally::last_line(board.table.tally);
-    Ok(())
+    board.table.last_line()
 }

@@ -1,8 +1,8 @@
 // The rest of a case's line: what must be, what is, what is left of rows and state, the verdict.
 use crate::board::{Board, ROWS};
+use crate::columns::Columns;
 use crate::said::{NONE, Said};
 use crate::same::same_state;
-use crate::table::Columns;
 use crate::{states, tallies};
 use answer::answers::Answer;
 use chip::state::{Outcome, State};

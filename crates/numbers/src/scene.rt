@@ -2,6 +2,7 @@
 // a person can hold it to document 01, and one case more needs no proof. The head of the input says
 // how a line is written.
 use crate::board::Board;
+use crate::columns::left;
 use crate::names::named;
 use crate::said::read_line;
 use std::io;
@@ -26,8 +27,8 @@ impl Board<'_> {
         let (head, rest) = headed(line, 9);
         let (numbers, end) = cut(rest, b'|');
         let (_, special) = cut(end, b' ');
-        self.table.left(head, 9)?;
-        self.table.left(special, 36)?;
+        left(self.table.rt, head, 9)?;
+        left(self.table.rt, special, 36)?;
         self.call(named(head), read_line(numbers))
     }
 
@@ -40,7 +41,7 @@ impl Board<'_> {
     // The title of a group of lines, and below it the titles of its columns.
     fn headings(&self, title: &[u8]) -> io::Result<()> {
         println!(self.table.rt)?;
-        self.table.left(title, 0)?;
+        left(self.table.rt, title, 0)?;
         println!(self.table.rt;
             "\ncall      what is special                    must be              is                   left"
         )

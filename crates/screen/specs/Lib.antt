@@ -1,2 +1,1 @@
-pub mod Same
 pub mod Tallies

@@ -1,7 +1,7 @@
-// What the programs share: how a line is written, whether two answers or two chips are the same, and how many were compared.
+// What the programs share: how a line is written, how rows and bits are shown, and how many answers were compared.
 #![tactic(auto)]
 
 pub mod print;
-pub mod same;
 pub mod shown;
+pub mod table;
 pub mod tally;

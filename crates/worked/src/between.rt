@@ -1,6 +1,6 @@
 // Writing again over each row that a cut write can leave: the same row is reached, and the pulses
 // are the bits still missing.
-use crate::table::Table;
+use crate::table::{Table, headings};
 use crate::write_lines::{Left, ecc_line};
 use std::io;
 
@@ -60,7 +60,8 @@ fn lines(table: &mut Table, fits: &str, burnt: u32, rows: &[Between]) -> io::Res
 }
 
 pub fn run(table: &mut Table) -> io::Result<()> {
-    table.headings(
+    headings(
+        table,
         "Writing 1 again over the rows between the old one and the burnt one",
         "fits      what                        must be                     is",
     )?;

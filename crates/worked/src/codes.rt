@@ -3,7 +3,7 @@ ghost use Rattle.std.specs.Prelude.{◌≤◌};
 
 use crate::read_lines::{clean, reads};
 use crate::samples::{SAMPLES, Sample};
-use crate::table::{Share, Table};
+use crate::table::{Share, Table, headings};
 use answer::answers::Polarity;
 use row::coding::{code, inverted, plain};
 use screen::shown::{Bits, Value};
@@ -14,8 +14,8 @@ fn clean_reads(sample: Sample) -> u32
     ensures { result ≤ 2 }
 {
     let Sample(value, plain_row, inverted_row) = sample;
-    let plain_read = clean(value as u32, Polarity::Plain);
-    let inverted_read = clean(value as u32, Polarity::Inverted);
+    let plain_read = clean(u32::from(value), Polarity::Plain);
+    let inverted_read = clean(u32::from(value), Polarity::Inverted);
     u32::from(reads(plain_row, plain_read)) + u32::from(reads(inverted_row, inverted_read))
 }
 
@@ -30,8 +30,8 @@ fn code_line(table: &mut Table, sample: Sample) -> io::Result<()> {
         + u32::from(own_plain == plain_row)
         + u32::from(own_inverted == inverted_row);
     print!(table.rt;
-        "{}  {}  {}  {}  {}  {}  {}",
-        Value(value as u32),
+        "{}  {}  {}  {}  {}  {}  {}   ",
+        Value(u32::from(value)),
         Bits(plain_row),
         Bits(own_code),
         Bits(own_plain),
@@ -43,7 +43,8 @@ fn code_line(table: &mut Table, sample: Sample) -> io::Result<()> {
 }
 
 pub fn run(table: &mut Table) -> io::Result<()> {
-    table.headings(
+    headings(
+        table,
         "Codes, plain and inverted rows, and what the two rows read back",
         "value   must be   code is   plain is  must be   inverted  read back",
     )?;

@@ -7,7 +7,7 @@ ghost use Rattle.std.specs.Prelude.{◌≤◌};
 use crate::places::places;
 use crate::read_lines::{reads, refused, repaired, worn, worn_and_repaired};
 use crate::samples::{SAMPLES, Sample};
-use crate::table::{Share, Table};
+use crate::table::{Share, Table, headings};
 use answer::answers::{Answer, Polarity};
 use screen::shown::Value;
 use std::io;
@@ -51,7 +51,7 @@ fn damage_line(table: &mut Table, sample: Sample) -> io::Result<()> {
     let turned = repaired_places(inverted, value, Polarity::Inverted);
     let flag_refused = flags(inverted, refused(8));
     print!(table.rt;
-        "{}   plain {}, {}, {}   inverted {}, {}",
+        "{}   plain {}, {}, {}   inverted {}, {}   ",
         Value(value),
         Share(upright, 22, "repaired"),
         Share(flag_worn, 2, "worn"),
@@ -63,7 +63,8 @@ fn damage_line(table: &mut Table, sample: Sample) -> io::Result<()> {
 }
 
 pub fn run(table: &mut Table) -> io::Result<()> {
-    table.headings(
+    headings(
+        table,
         "Every one-bit damage: bits 21:0, bits 23:22, and of the plain row one of both",
         "value    of the plain row                                      of the inverted row",
     )?;

@@ -5,7 +5,7 @@ ghost use Rattle.std.specs.Prelude.{◌<◌, ◌≤◌};
 use crate::places::places;
 use crate::read_lines::{reads, refused};
 use crate::samples::Sample;
-use crate::table::{Share, Table};
+use crate::table::{Share, Table, headings};
 use screen::shown::Value;
 use std::io;
 
@@ -39,7 +39,7 @@ fn pairs_line(table: &mut Table, sample: Sample) -> io::Result<()> {
     let of_plain = refused_pairs(plain_row);
     let of_inverted = refused_pairs(inverted_row);
     print!(table.rt;
-        "{}   plain {}   inverted {}",
+        "{}   plain {}   inverted {}   ",
         Value(u32::from(value)),
         Share(of_plain, 231, "refused"),
         Share(of_inverted, 231, "refused")
@@ -48,7 +48,8 @@ fn pairs_line(table: &mut Table, sample: Sample) -> io::Result<()> {
 }
 
 pub fn run(table: &mut Table) -> io::Result<()> {
-    table.headings(
+    headings(
+        table,
         "Every two-bit damage of bits 21:0",
         "value    of the plain row           of the inverted row",
     )?;

@@ -1,7 +1,7 @@
 // Jobs that are done, malformed, out of order and refused by an entry (document 01, "Jobs").
 // A refused job leaves each row as it was.
 use crate::job_lines::{Board, Told, job_line, ready};
-use crate::table::Table;
+use crate::table::{Table, headings};
 use job::jobs::run_job;
 use std::io;
 
@@ -143,7 +143,8 @@ pub fn cases(table: &mut Table, cases: &[Case]) -> io::Result<()> {
 }
 
 pub fn run(table: &mut Table) -> io::Result<()> {
-    table.headings(
+    headings(
+        table,
         "Jobs: number, place and pulses; a refused one leaves each row as it was",
         "job                           must be                          is",
     )?;

@@ -1,7 +1,7 @@
 // A job cut after each of its pulses, then a reset and the full job (document 01, "Jobs"): the rows of the uncut run, and pulses
 // that add up. And the longest job.
 use crate::job_lines::{Board, Told, answer_line, job_line, ready};
-use crate::table::Table;
+use crate::table::{Table, headings};
 use answer::answers::Answer;
 use job::jobs::{rehearse, run_job};
 use std::io;
@@ -83,7 +83,8 @@ fn longest(table: &mut Table) -> io::Result<()> {
 }
 
 pub fn run(table: &mut Table) -> io::Result<()> {
-    table.headings(
+    headings(
+        table,
         "Jobs cut by a limit, then a reset and the full job; and the longest job, run twice",
         "job                           must be                          is",
     )?;

@@ -51,6 +51,6 @@ pub fn answer_line(
     rows_right: bool,
 ) -> io::Result<()> {
     let is = Told::from(answer);
-    print!(table.rt; "{must}   {is}")?;
+    print!(table.rt; "{must}   {is}   ")?;
     table.verdict(is == must && rows_right)
 }

@@ -1,6 +1,6 @@
 // The tallies that a job and a rehearsal leave, on the pages that the job names and on others (request 2026-07).
 use crate::job_lines::ready;
-use crate::table::Table;
+use crate::table::{Table, headings};
 use chip::state::Tallies;
 use job::jobs::rehearse;
 use std::{fmt, io};
@@ -65,7 +65,7 @@ fn cut_line(table: &mut Table, limit: u32, before: Tallies, must: Tallies) -> io
     let after = rehearse(&mut rows, state, &JOB, limit).state;
     let are = after.tallies;
     print!(table.rt;
-        "{limit:5}{}{}{}",
+        "{limit:5}{}{}{}   ",
         Columns(before),
         Columns(must),
         Columns(are)
@@ -74,7 +74,8 @@ fn cut_line(table: &mut Table, limit: u32, before: Tallies, must: Tallies) -> io
 }
 
 pub fn run(table: &mut Table) -> io::Result<()> {
-    table.headings(
+    headings(
+        table,
         "Tallies of pages 3, 4, 9 and 10 over a job of 16 pulses on pages 3, 4 and 9, cut by a limit",
         "limit  before                    must be                   are",
     )?;

@@ -3,7 +3,7 @@
 use crate::job_cases::{Case, case, cases};
 use crate::job_cuts::{reset_and_rehearse, reset_and_run};
 use crate::job_lines::{Told, answer_line};
-use crate::table::Table;
+use crate::table::{Table, headings};
 use std::io;
 
 // One entry: a name, the row, its kind, and what must be answered.
@@ -79,7 +79,8 @@ fn must_be(limit: u32, refused: u32) -> Told {
 
 // The job that locks by a byte, cut after each of its pulses.
 fn cut_lines(table: &mut Table, title: &str, byte: u8, refused: u32) -> io::Result<()> {
-    table.headings(
+    headings(
+        table,
         title,
         "job                           must be                          is",
     )?;
@@ -91,7 +92,8 @@ fn cut_lines(table: &mut Table, title: &str, byte: u8, refused: u32) -> io::Resu
 }
 
 pub fn run(table: &mut Table) -> io::Result<()> {
-    table.headings(
+    headings(
+        table,
         "Version 2 jobs: where rows may stand; a refused one leaves each row as it was",
         "job                           must be                          is",
     )?;

@@ -23,7 +23,6 @@ mod worked_rows;
 mod write_lines;
 mod writes;
 
-use screen::tally;
 use std::io;
 use table::Table;
 
@@ -50,12 +49,8 @@ fn main(rt: HostRuntime) -> io::Result<()> {
     println!(rt;
         "The code of row and job against document 01: what must be, what is, and the verdict"
     )?;
-    let mut table = Table {
-        rt: &rt,
-        tally: tally::nothing_yet(),
-    };
+    let mut table = Table::new(&rt);
     rows(&mut table)?;
     jobs(&mut table)?;
-    tally::last_line(table.tally);
-    Ok(())
+    table.last_line()
 }

@@ -73,7 +73,7 @@ impl fmt::Display for Shown {
 pub fn read_line(table: &mut Table, label: &str, row: u32, must: Answer) -> io::Result<()> {
     let is = read_row(row);
     print!(table.rt;
-        "{label:<10}read {}               {}{}",
+        "{label:<10}read {}               {}{}   ",
         Bits(row),
         Shown(must),
         Shown(is)

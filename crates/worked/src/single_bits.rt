@@ -2,7 +2,7 @@
 // Each sample is written over each of the 24 rows that have one bit set.
 use crate::places::places;
 use crate::samples::{SAMPLES, Sample};
-use crate::table::{Share, Table};
+use crate::table::{Share, Table, headings};
 use row::writing::write_ecc;
 use screen::shown::Value;
 use std::io;
@@ -22,7 +22,7 @@ fn single_bits_line(table: &mut Table, sample: Sample) -> io::Result<()> {
     let Sample(value, _, _) = sample;
     let right = places(24, |place| burns(1 << place, sample));
     print!(table.rt;
-        "{}   {}",
+        "{}   {}   ",
         Value(u32::from(value)),
         Share(right, 24, "burnt")
     )?;
@@ -30,7 +30,8 @@ fn single_bits_line(table: &mut Table, sample: Sample) -> io::Result<()> {
 }
 
 pub fn run(table: &mut Table) -> io::Result<()> {
-    table.headings(
+    headings(
+        table,
         "Writes over each row with one bit set: never 9",
         "value    the row that has the bit",
     )?;

@@ -3,7 +3,7 @@
 ghost use Rattle.std.specs.Prelude.{◌≤◌, ◌<◌};
 
 use crate::places::places;
-use crate::table::{Share, Table};
+use crate::table::{Share, Table, headings};
 use std::io;
 use vote::voting::vote;
 
@@ -39,12 +39,13 @@ fn places_line(table: &mut Table, count: usize, least: u32, held: u32) -> io::Re
 {
     let right = right_of(count, least, held);
     let voted = if least <= held { "set  " } else { "clear" };
-    print!(table.rt; "{held} of {count} rows    {}", Share(right, 24, voted))?;
+    print!(table.rt; "{held} of {count} rows    {}   ", Share(right, 24, voted))?;
     table.verdict_of_many(right, 24)
 }
 
 pub fn run(table: &mut Table) -> io::Result<()> {
-    table.headings(
+    headings(
+        table,
         "Votes on each of the 24 places by itself",
         "have the bit   places",
     )?;

@@ -1,6 +1,6 @@
 // Votes over gathered rows (document 01, "Votes"): two of three, three of eight, and how many of
 // the eight rows are counted.
-use crate::table::Table;
+use crate::table::{Table, headings};
 use screen::shown::Bits;
 use std::io;
 use vote::voting::{threshold, vote};
@@ -118,20 +118,21 @@ fn vote_lines(table: &mut Table, votes: &[Vote]) -> io::Result<()> {
     for &(what, rows, count, least, must) in votes {
         // There are no rows past the eighth.
         let is = vote(&rows[..count.min(8)], least);
-        print!(table.rt; "{what:<50}{}  {}", Bits(must), Bits(is))?;
+        print!(table.rt; "{what:<50}{}  {}   ", Bits(must), Bits(is))?;
         table.verdict(is == must)?;
     }
     Ok(())
 }
 
 pub fn run(table: &mut Table) -> io::Result<()> {
-    table.headings(
+    headings(
+        table,
         "Votes",
         "what                                              must be   is",
     )?;
     for (what, count, must) in THRESHOLDS {
         let is = threshold(count);
-        print!(table.rt; "{what:<50}{must}         {is}       ")?;
+        print!(table.rt; "{what:<50}{must}         {is}          ")?;
         table.verdict(is == must)?;
     }
     vote_lines(table, &OF_THREE)?;

@@ -1,7 +1,7 @@
 // The twelve worked rows of document 01, in its order, with the answers that it prints.
 // Of a write it prints the row or the number alone. The pulses are the bits newly set, by its rule.
 use crate::read_lines::{clean, read_line, refused, repaired};
-use crate::table::Table;
+use crate::table::{Table, headings};
 use crate::write_lines::{Left, ecc_line};
 use answer::answers::Polarity;
 use row::coding::code;
@@ -19,8 +19,8 @@ const WRITES: [(&str, u16, u32, Left); 3] = [
 fn code_line(table: &mut Table, label: &str, value: u16, must: u32) -> io::Result<()> {
     let is = code(value);
     print!(table.rt;
-        "{label:<10}code of {}              {}                    {}                    ",
-        Value(value as u32),
+        "{label:<10}code of {}              {}                    {}                       ",
+        Value(u32::from(value)),
         Bits(must),
         Bits(is)
     )?;
@@ -44,7 +44,8 @@ fn read_lines(table: &mut Table) -> io::Result<()> {
 }
 
 pub fn run(table: &mut Table) -> io::Result<()> {
-    table.headings(
+    headings(
+        table,
         "The twelve worked rows: number, value, condition and polarity, or number, row and pulses",
         "case      what                        must be                     is",
     )?;

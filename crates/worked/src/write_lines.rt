@@ -26,7 +26,7 @@ impl fmt::Display for Left {
 }
 
 fn compared(table: &mut Table, old: u32, must: Left, is: Left) -> io::Result<()> {
-    print!(table.rt; " over {}  {must}      {is}      ", Bits(old))?;
+    print!(table.rt; " over {}  {must}      {is}         ", Bits(old))?;
     table.verdict(is == must)
 }
 
@@ -38,7 +38,7 @@ pub fn ecc_line(
     old: u32,
     must: Left,
 ) -> io::Result<()> {
-    print!(table.rt; "{label:<10}write {}", Value(value as u32))?;
+    print!(table.rt; "{label:<10}write {}", Value(u32::from(value)))?;
     compared(table, old, must, Left::of(old, write_ecc(old, value)))
 }
 

@@ -1,5 +1,5 @@
 // Writes over rows with some bits set: the chosen polarity, the refusal, the pulses, raw writes.
-use crate::table::Table;
+use crate::table::{Table, headings};
 use crate::write_lines::{Left, ecc_line, raw_line};
 use std::io;
 
@@ -63,7 +63,8 @@ fn ecc_lines(table: &mut Table, fits: &str, writes: &[EccWrite]) -> io::Result<(
 }
 
 pub fn run(table: &mut Table) -> io::Result<()> {
-    table.headings(
+    headings(
+        table,
         "Writes over rows with some bits set",
         "fits      what                        must be                     is",
     )?;
