@@ -1,7 +1,6 @@
 // Every advance and every show: each caller, each domain, each present level and each asked one (document 01, "Locks"; request 2026-05).
 ghost use Rattle.std.specs.Prelude.{◌<◌};
 
-use crate::same::same_state;
 use crate::states;
 use answer::answers::{done, refused, told};
 use chip::state::State;
@@ -39,7 +38,7 @@ fn advance_is_right(caller: u32, domain: u32, number: u32, present: u32, asked: 
     } else {
         state
     };
-    outcome.answer == must && same_state(&outcome.state, &left)
+    outcome.answer == must && outcome.state == left
 }
 
 fn show_is_right(caller: u32, domain: u32, present: u32) -> bool

@@ -12,7 +12,6 @@ mod names;
 mod outcomes;
 mod preparing;
 mod said;
-mod same;
 mod scene;
 mod states;
 mod tallies;

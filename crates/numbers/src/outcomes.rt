@@ -2,7 +2,6 @@
 use crate::board::{Board, ROWS};
 use crate::columns::Columns;
 use crate::said::{NONE, Said};
-use crate::same::same_state;
 use crate::{states, tallies};
 use answer::answers::Answer;
 use chip::state::{Outcome, State};
@@ -51,7 +50,7 @@ impl Board<'_> {
         word: &str,
         same_rows: bool,
     ) -> io::Result<()> {
-        let as_must = same_rows && same_state(&outcome.state, &must);
+        let as_must = same_rows && outcome.state == must;
         self.state = must;
         self.hand = must;
         self.finished(line, outcome.answer, word, as_must)
