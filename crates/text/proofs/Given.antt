@@ -1,14 +1,14 @@
 -- The job that a text gives: as many entries as are counted, each within its places. So the job says what the text says.
 -- Assumes nothing.
 use mathlib.Core.Path.{◌≡◌, refl, sym, ap, ◌∙◌}
-use mathlib.Core.Bool.{Bool, true, false, not}
+use mathlib.Core.Bool.{Bool, not}
 use mathlib.Core.List.{List, [], ◌∷◌, ◌++◌}
 use Prim.Native.Nat.{ℕ, zero, suc, ◌+◌, ◌*◌, ◌≤◌, ◌<◌}
 use native.Mathlib.Nat.{zero-add}
 use native.Mathlib.Omega.{arith}
-use lib.ListN.{length, set, length-append}
+use lib.ListN.{length, set}
 use lib.Seq.{set_comm}
-use Rattle.std.specs.Prelude.{Option, Some, None, if◌then◌else◌}
+use Rattle.std.specs.Prelude.{Option, Some, None}
 use Rattle.answer.proofs.Choices.{both_ways}
 use Rattle.chip.specs.Lists.{same}
 use Rattle.form.specs.Entries as form
@@ -18,37 +18,15 @@ use Rattle.form.proofs.WholeJob.{AllFit, job_entries}
 use Rattle.text.specs.Lines.{is_cut, number_at, ecc, raw, entry_of, with_value, with_kind, with_row, has_word, line_of}
 use Rattle.typed.specs.Words.{word_of}
 use Rattle.text.specs.Versions.{version, one, two, version_named, said_by}
-use Rattle.text.specs.Jobs.{Reading, begun, passed, stopped, next_of, read_by, entry_by, goes_on, read_from, entries_from, most_lines, reading_of, entries_of}
+use Rattle.text.specs.Jobs.{Reading, begun, next_of, read_by, entry_by, goes_on, entries_from, most_lines, reading_of, entries_of}
+use Rattle.text.proofs.JobLines.{job_counted}
 use Rattle.text.specs.Line.{Line, Empty, Version, Entry, Wrong}
 use Rattle.text.specs.Whys as why
 
 -- ---- as many entries as are counted
 
-count_by : (text : List ℕ) (reading : Reading) (line : Line) → (read_by text reading line).count ≡ reading.count + length (entry_by line)
-unfolding passed stopped
-count_by text reading Empty = omega arith
-count_by text reading (Version version) = omega arith
-count_by text reading (Entry entry) = refl
-count_by text reading (Wrong word why) = omega arith
-
-counted_from : (text : List ℕ) (most lines : ℕ) (reading : Reading)
-    → (read_from lines text most reading).count ≡ reading.count + length (entries_from lines text most reading)
-unfolding read_from entries_from
-counted_from text most zero reading = omega arith
-counted_from text most (suc lines) reading =
-    go (goes_on text most reading) (next_of text reading) (counted_from text most lines (read_by text reading (next_of text reading)))
-  where
-    go : (t : Bool) (line : Line)
-        → (read_from lines text most (read_by text reading line)).count
-        ≡ (read_by text reading line).count + length (entries_from lines text most (read_by text reading line))
-        → (if t then read_from lines text most (read_by text reading line) else reading).count
-        ≡ reading.count + length (if t then entry_by line ++ entries_from lines text most (read_by text reading line) else [])
-    go true line rest =
-        omega (arith, count_by text reading line, length-append (entry_by line) (entries_from lines text most (read_by text reading line)))
-    go false line rest = omega arith
-
 pub counted : (text : List ℕ) (most : ℕ) → (reading_of text most).count ≡ length (entries_of text most)
-counted text most = counted_from text most most_lines begun ∙ zero-add (length (entries_of text most))
+counted text most = job_counted text most most_lines begun ∙ zero-add (length (entries_of text most))
 
 -- ---- each within its places
 

@@ -1,42 +1,19 @@
 -- The list that a text gives: as many rows as are counted. So the first so many of a list with room for them are the text's.
 -- Assumes nothing.
 use mathlib.Core.Path.{◌≡◌, refl, ap, ◌∙◌}
-use mathlib.Core.Bool.{Bool, true, false}
-use mathlib.Core.List.{List, [], ◌∷◌, ◌++◌}
-use Prim.Native.Nat.{ℕ, zero, suc, ◌+◌, ◌≤◌}
+use mathlib.Core.List.{List, [], ◌∷◌}
+use Prim.Native.Nat.{ℕ, suc, ◌+◌, ◌≤◌}
 use native.Mathlib.Nat.{zero-add}
 use native.Mathlib.Numerals.{add-one}
 use native.Mathlib.Omega.{arith}
-use lib.ListN.{length, set, take, drop, length-append}
+use lib.ListN.{length, set, take, drop}
 use lib.Seq.{sets, sets-eq, take-append_seam}
-use Rattle.std.specs.Prelude.{if◌then◌else◌}
-use Rattle.text.specs.Jobs.{Reading, begun, passed, stopped, goes_on, most_lines}
-use Rattle.text.specs.Lists.{Listed, Empty, Row, Wrong, next_listed, list_by, row_by, list_from, rows_from, list_reading, rows_of, with_rows}
-
-count_by : (text : List ℕ) (reading : Reading) (line : Listed) → (list_by text reading line).count ≡ reading.count + length (row_by line)
-unfolding passed stopped
-count_by text reading Empty = omega arith
-count_by text reading (Row row) = refl
-count_by text reading (Wrong word why) = omega arith
-
-counted_from : (text : List ℕ) (most lines : ℕ) (reading : Reading)
-    → (list_from lines text most reading).count ≡ reading.count + length (rows_from lines text most reading)
-unfolding list_from rows_from
-counted_from text most zero reading = omega arith
-counted_from text most (suc lines) reading =
-    go (goes_on text most reading) (next_listed text reading) (counted_from text most lines (list_by text reading (next_listed text reading)))
-  where
-    go : (t : Bool) (line : Listed)
-        → (list_from lines text most (list_by text reading line)).count
-        ≡ (list_by text reading line).count + length (rows_from lines text most (list_by text reading line))
-        → (if t then list_from lines text most (list_by text reading line) else reading).count
-        ≡ reading.count + length (if t then row_by line ++ rows_from lines text most (list_by text reading line) else [])
-    go true line rest =
-        omega (arith, count_by text reading line, length-append (row_by line) (rows_from lines text most (list_by text reading line)))
-    go false line rest = omega arith
+use Rattle.text.specs.Jobs.{begun, most_lines}
+use Rattle.text.proofs.ListLines.{list_counted}
+use Rattle.text.specs.Lists.{list_reading, rows_of, with_rows}
 
 pub counted : (text : List ℕ) (most : ℕ) → (list_reading text most).count ≡ length (rows_of text most)
-counted text most = counted_from text most most_lines begun ∙ zero-add (length (rows_of text most))
+counted text most = list_counted text most most_lines begun ∙ zero-add (length (rows_of text most))
 
 -- rows put one after the other are a run of stores
 as_sets : (rows list : List ℕ) (at : ℕ) → with_rows list at rows ≡ sets list at rows
