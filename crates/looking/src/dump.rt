@@ -1,36 +1,20 @@
 // `otp dump`: the rows that hold bits, or all rows of a range.
 use crate::dump_lines;
-use board::begin::{Start, begin, finish};
+use board::begin::{begin, finish};
 use board::range;
-use board::range::{Range, Rows};
-use console::options::Words;
+use console::ended::{End, Stop};
 use console::takes::{Role, Takes};
-use console::usage::{Given, asked};
+use console::usage::asked;
 
-fn of_range(rt: &HostRuntime, words: Words, range: Range) {
+pub fn run(rt: &HostRuntime) -> Result<End, Stop> {
+    let words = asked(rt, Takes::on_image(Role::Other, 1, 3))?;
+    let range = if words.second.is_none() {
+        range::held_before(4096)
+    } else {
+        range::named(rt, words)?
+    };
     let mut rows = [0u32; 4096];
-    let begun = begin(rt, words, &mut rows);
-    let start = begun.start;
-    let state = begun.state;
-    if let Start::Ready = start {
-        dump_lines::show(&rows, state, range);
-        finish(words, state, 0);
-    }
-}
-
-fn of_words(rt: &HostRuntime, words: Words) {
-    if words.second == 0 {
-        of_range(rt, words, range::held_before(4096));
-        return;
-    }
-    if let Rows::Range(range) = range::named(rt, words) {
-        of_range(rt, words, range);
-    }
-}
-
-pub fn run(rt: &HostRuntime) {
-    let takes = Takes::on_image(Role::Other, 1, 3);
-    if let Given::Words(words) = asked(rt, takes) {
-        of_words(rt, words);
-    }
+    let state = begin(rt, words, &mut rows)?;
+    dump_lines::show(rt, &rows, state, range)?;
+    finish(rt, words, state, 0)
 }

@@ -2,107 +2,79 @@
 // locks; or why it has none.
 use board::lock_rows;
 use chip::pages::Page;
-use console::ended;
-use console::files::{Length, load_job};
+use console::ended::{End, Stop};
+use console::files::load_job;
 use console::takes::{Role, Takes};
-use console::usage::{Given, asked};
+use console::usage::{asked, needed};
 use form::entries::{Entry, count_of, version_of};
-use form::faults::{fault_number, fault_of};
+use form::faults::fault_of;
 use reader::handing::Found;
 use reader::readers::{FIRST_ENTRY, next_entry};
 use row::coding::{inverted, plain};
-use screen::print;
-use typed::words::part;
+use screen::shown::{Bits, Row, Value};
+use std::io;
 use wording::job_refusals;
 
-// "ecc 320       # 0x0140, plain 0x050140, inverted 0xfafebf"
-fn ecc(value: u16) {
-    print::text(b" ecc ");
-    print::number_left(value as u32, 8);
-    print::value_after(b"# ", value as u32);
-    print::bits_after(b", plain ", plain(value));
-    print::bits_after(b", inverted ", inverted(value));
-    print::end();
-}
-
-// "raw 0x010101 # page 3: Secure level 1, Non-secure level 0, bootloader level 0": what is locked where the row was blank.
-fn raw(row: u32, value: u32) {
-    print::bits_after(b" raw ", value);
+// "0x0c0 ecc 320       # 0x0140, plain 0x050140, inverted 0xfafebf", or "0xf87 raw 0x010101 # page 3: Secure level 1, Non-secure level 0, bootloader
+// level 0": what is locked where the row was blank.
+fn entry_line(rt: &HostRuntime, entry: Entry) -> io::Result<()> {
+    let Entry { row, kind, value } = entry;
+    if kind == 0 {
+        let value = (value % 65536) as u16;
+        print!(rt;
+            "{} ecc {value:<8}# {}, ",
+            Row(row),
+            Value(u32::from(value))
+        )?;
+        return println!(rt;
+            "plain {}, inverted {}",
+            Bits(plain(value)),
+            Bits(inverted(value))
+        );
+    }
+    print!(rt; "{} raw {}", Row(row), Bits(value))?;
     if Page::FIRST_LOCK_ROW <= row {
-        print::number_after(b" # page ", lock_rows::page_of(row));
-        print::text(b": ");
-        lock_rows::words(row, value);
+        let page = lock_rows::page_of(row);
+        print!(rt; " # page {page}: {}", lock_rows::Words(row, value))?;
     }
-    print::end();
-}
-
-fn entry_line(entry: Entry) {
-    print::row(entry.row);
-    if entry.kind == 0 {
-        ecc((entry.value % 65536) as u16);
-        return;
-    }
-    raw(entry.row, entry.value);
-}
-
-// A text without this line gives a job of version 1.
-fn first_line(version: u32) {
-    if version == 2 {
-        print::line(b"version 2");
-    }
+    println!(rt; "")
 }
 
 // The reader hands over one entry at a time, to the end of the bytes.
-fn lines(job: &[u8]) {
+fn lines(rt: &HostRuntime, job: &[u8]) -> io::Result<()> {
     let mut at = FIRST_ENTRY;
     loop {
         let handed = next_entry(job, at);
         let found = handed.found;
         let Found::Entry(entry) = found else {
-            return;
+            return Ok(());
         };
-        entry_line(entry);
+        entry_line(rt, entry)?;
         at = handed.at;
     }
 }
 
-fn last_line(count: u32) {
-    print::number_after(b"# ", count);
-    if count == 1 {
-        print::line(b" entry");
-        return;
+// A text without the first line gives a job of version 1.
+fn text(rt: &HostRuntime, job: &[u8]) -> io::Result<()> {
+    if version_of(job) == 2 {
+        println!(rt; "version 2")?;
     }
-    print::line(b" entries");
-}
-
-fn of_job(job: &[u8]) {
-    let number = fault_number(fault_of(job));
-    if number != 0 {
-        job_refusals::headline(job, number, 0);
-        ended::answered(number);
-        return;
+    lines(rt, job)?;
+    match count_of(job) {
+        1 => println!(rt; "# 1 entry"),
+        count => println!(rt; "# {count} entries"),
     }
-    first_line(version_of(job));
-    lines(job);
-    last_line(count_of(job));
-    ended::answered(0);
 }
 
-// The job is the first bytes of an array.
-fn of_bytes(bytes: &[u8; 3080], length: usize) {
-    of_job(part(bytes, 0, length));
-}
-
-fn of_file(rt: &HostRuntime, place: usize) {
+pub fn run(rt: &HostRuntime) -> Result<End, Stop> {
+    let words = asked(rt, Takes::words(Role::Job, Role::Other, 1, 1))?;
     let mut bytes = [0u8; 3080];
-    if let Length::Is(n) = load_job(rt, place, &mut bytes) {
-        of_bytes(&bytes, n);
+    let job = load_job(rt, needed(rt, words.first)?, &mut bytes)?;
+    if let Err(fault) = fault_of(job) {
+        let number = fault.refusal().number();
+        job_refusals::headline(rt, job, number, 0)?;
+        return Ok(End::Answered(number));
     }
-}
-
-pub fn run(rt: &HostRuntime) {
-    let takes = Takes::words(Role::Job, Role::Other, 1, 1);
-    if let Given::Words(words) = asked(rt, takes) {
-        of_file(rt, words.first);
-    }
+    text(rt, job)?;
+    Ok(End::Answered(0))
 }
