@@ -6,7 +6,7 @@ use mathlib.Core.List.{List}
 use mathlib.Core.Logic.{inl}
 use Prim.Native.Nat.{ℕ, ◌+◌, ◌-◌, ◌≤◌, ◌<◌}
 use native.Mathlib.Omega.{arith}
-use borrow.Author.Tests.{ltb-true}
+use borrow.Author.Tests.{ltb-true, le-ltb}
 use lib.Dec.{eqb, ltb, leb}
 use lib.ListN.{length}
 use Rattle.std.specs.Prelude.{if◌then◌else◌}
@@ -15,8 +15,8 @@ use Rattle.form.specs.Faults.{Sound, ◌otherwise◌, rule_of, Fault}
 use Rattle.form.specs.Said.{found}
 use Rattle.form.specs.declared.faults.Fault.{Fault as Found}
 use Rattle.form.proofs.Judged.{stops, goes_on}
-use Rattle.lead.specs.Early.{came, spoils, unknown_version, large_count, head_brought, entry_faults, past_brought, brought}
-use Rattle.lead.specs.Notes.{begun_before, so_far, ended_in}
+use Rattle.lead.specs.Early.{came, spoils, unknown_version, large_count, head_brought, entry_faults, past_brought, brought, early_fault}
+use Rattle.lead.specs.Notes.{start_of, stop_of, begun_before, so_far, ended_in}
 use Rattle.lead.specs.declared.notes.Note.{Note}
 use Rattle.lead.proofs.Counts.{before_fits}
 use Rattle.lead.proofs.SoFar.{byte_else, head_else}
@@ -49,6 +49,11 @@ module _ (a b : List ℕ) (start stop : ℕ) (same : (place : ℕ) → place < 7
   unfolding head_brought
   head_same =
       rw (mark_same 0 0x4f (omega arith), mark_same 1 0x54 (omega arith), mark_same 2 0x4a (omega arith), unknown_same, large_same)
+
+-- of a chunk that is not empty, and an area with room
+pub judged : (area : List ℕ) (note : Note) (chunk : List ℕ) → 3079 ≤ length area → eqb (length chunk) 0 ≡ false
+    → early_fault area note chunk ≡ brought note.least (so_far area note) (start_of note) (stop_of note chunk)
+judged area note chunk room some = rw (le-ltb (length area) 3079 room, some)
 
 module _ (area : List ℕ) (note : Note) (room : 3079 ≤ length area) (least start stop : ℕ) where
   abbrev job : List ℕ

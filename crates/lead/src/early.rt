@@ -111,20 +111,29 @@ fn past_brought(count: u32, stop: u32) -> Result<(), Fault>
     Ok(())
 }
 
+// The first fault among what the bytes up to a stop bring to an end.
+fn brought(file: &FileSoFar, stop: u32) -> Result<(), Fault>
+    requires { stop ≤ 3080 }
+    ensures { said result
+        ≡ spec.brought file.now.note.least (notes.so_far file.now.area.now file.now.note) (notes.start_of file.now.note) stop }
+{
+    let area = file.area;
+    let start = file.note.start();
+    Came { area, start, stop }.head_fault()?;
+    let count = count_of(area);
+    entry_faults(file, ended_in(count, stop), rule_of(area))?;
+    past_brought(count, stop)
+}
+
 // The first fault that a chunk, whose bytes the area has, brings to its end.
-pub(crate) fn brought(file: &FileSoFar, chunk: &[u8]) -> Result<(), Fault>
+#[tactic(auto, using(crate::proofs::Heads::judged))]
+pub(crate) fn chunk_fault(file: &FileSoFar, chunk: &[u8]) -> Result<(), Fault>
     ensures { said result ≡ spec.early_fault file.now.area.now file.now.note chunk.now }
 {
     if chunk.is_empty() {
         return Ok(());
     }
-    let area = file.area;
-    let start = file.note.start();
-    let stop = file.note.stop(chunk);
-    Came { area, start, stop }.head_fault()?;
-    let count = count_of(area);
-    entry_faults(file, ended_in(count, stop), rule_of(area))?;
-    past_brought(count, stop)
+    brought(file, file.note.stop(chunk))
 }
 
 // The same, of any area: one that has no room takes no chunk.
@@ -134,5 +143,5 @@ pub fn early_fault(area: &[u8], note: Note, chunk: &[u8]) -> Result<(), Fault>
     if area.len() < AREA_BYTES as usize {
         return Ok(());
     }
-    brought(&FileSoFar::before(area, note), chunk)
+    chunk_fault(&FileSoFar::before(area, note), chunk)
 }

@@ -4,7 +4,7 @@ ghost use Rattle.form.specs.Writing.{with_bytes};
 ghost use Rattle.lead.specs.Notes as notes;
 ghost use Rattle.lead.specs.Taking as spec;
 
-use crate::early::brought;
+use crate::early::chunk_fault;
 use crate::notes::{AREA_BYTES, Note, begun_in, ended_in};
 use crate::so_far::FileSoFar;
 use answer::answers::{Answer, told};
@@ -78,7 +78,7 @@ pub fn take_chunk(area: &mut [u8], note: Note, chunk: &[u8]) -> Taken
     store(area, note.start(), chunk);
     let file = FileSoFar::before(area, note);
     Taken {
-        answer: told(fault_number(brought(&file, chunk))),
+        answer: told(fault_number(chunk_fault(&file, chunk))),
         note: noted(&file, chunk),
     }
 }

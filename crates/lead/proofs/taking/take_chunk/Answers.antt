@@ -19,7 +19,7 @@ returns c =
       taken a.area.now a.note a.chunk.now (le-ltb _ 3079 c.if-area.false),
       c.told.ensures,
       c.fault_number.ensures,
-      c.brought.ensures,
+      c.chunk_fault.ensures,
       c.noted.ensures,
       file,
       c.before-file.ensures.1,
