@@ -2,7 +2,8 @@
 ghost use Rattle.std.specs.Prelude.{◌≡◌, ℕ, ◌+◌, ◌*◌, ◌^◌, ◌≤◌, ◌<◌, List, length};
 ghost use Rattle.form.specs.Entries as spec;
 
-// One entry: a row, a kind (0 is ECC, 1 is raw) and a value.
+// One entry: a row, a kind (0 is ECC, 1 is raw) and a value. The kind stays the byte that stands there: of any other `Fault::Kind` tells, and
+// `entry_at` (form: Entries) gives it.
 #[derive(Clone, Copy, Debug, PartialEq, Eq)]
 pub struct Entry {
     pub row: u32,

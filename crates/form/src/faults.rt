@@ -167,7 +167,7 @@ fn locking_fault(i: u32, least: u32, entry: Entry) -> Result<(), Fault>
     Ok(())
 }
 
-// The fault of an entry's row by a version's rule.
+// The fault of an entry's row by a version's rule. The version stays the number that the head is compared with: an enum would be no plainer.
 pub fn row_fault(version: u32, i: u32, least: u32, entry: Entry) -> Result<(), Fault>
     ensures { said result ≡ spec.row_fault version i least entry }
 {

@@ -114,7 +114,8 @@ fn check_entry(rows: &[u32], may: bool, entry: Entry) -> Result<(), Refusal>
     Ok(())
 }
 
-// The entries in order: the first that is refused gives its refusal and its index.
+// The entries in order: the first that is refused gives its refusal and its index. By `map_err(..)?` the index would be the closure's too, which
+// is no plainer to prove.
 fn judged(rows: &[u32], state: State, job: &[u8]) -> Result<(), Refused>
     ensures { spec.given result ≡ spec.verdict (spec.all_rungs rows.now state 0 (entries_of job.now)) }
 {
