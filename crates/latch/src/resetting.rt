@@ -150,11 +150,12 @@ fn chip_of(rows: &[u32]) -> Result<&Chip, Refusal>
 pub fn reset(rows: &[u32], state: State) -> Outcome
     ensures { result ≡ spec.reset rows.now state }
 {
-    match chip_of(rows) {
-        Ok(chip) => Outcome {
-            answer: done(),
-            state: latched(chip),
-        },
-        Err(refused) => refusal(refused.number(), state),
-    }
+    // Not by an outcome in each arm: by that one state more stood on the stack.
+    let chip = match chip_of(rows) {
+        Ok(chip) => chip,
+        Err(refused) => return refusal(refused.number(), state),
+    };
+    let answer = done();
+    let state = latched(chip);
+    Outcome { answer, state }
 }

@@ -54,15 +54,18 @@ fn check_advance(caller: u32, domain: u32, page: u32, level: u32) -> Result<(), 
 pub fn advance(state: State, caller: u32, domain: u32, page: u32, level: u32) -> Outcome
     ensures { result ≡ spec.advance state caller domain page level }
 {
-    match check_advance(caller, domain, page, level) {
-        Ok(()) => Outcome {
-            answer: done(),
-            state: advanced(state, domain, page, level),
-        },
-        Err(refusal) => Outcome {
+    // Not by a `match` with an outcome in each arm: by that one state more stood on the stack.
+    if let Err(refusal) = check_advance(caller, domain, page, level) {
+        return Outcome {
             answer: refusal.into(),
             state,
-        },
+        };
+    }
+    let answer = done();
+    let next = advanced(state, domain, page, level);
+    Outcome {
+        answer,
+        state: next,
     }
 }
 
@@ -124,17 +127,18 @@ fn key_words(key: &[u8]) -> [u16; 8]
 pub fn enter_key(state: State, caller: u32, key: &[u8]) -> Outcome
     ensures { result ≡ spec.enter_key state caller key.now }
 {
-    match check_enter(caller, key) {
-        Ok(()) => Outcome {
-            answer: done(),
-            state: State {
-                entered: key_words(key),
-                ..state
-            },
-        },
-        Err(refusal) => Outcome {
+    // As in `advance`; and the state is copied as a whole, as in burn's `beside`.
+    if let Err(refusal) = check_enter(caller, key) {
+        return Outcome {
             answer: refusal.into(),
             state,
-        },
+        };
+    }
+    let words = key_words(key);
+    let mut next = state;
+    next.entered = words;
+    Outcome {
+        answer: done(),
+        state: next,
     }
 }
