@@ -1,24 +1,19 @@
--- Digits: which bytes are digits, what is left of a number that is read digit by digit, and two digits of a key.
+-- Digits: which bytes are digits, what is left of a number that is read digit by digit, and where a key is spelled.
 -- Assumes nothing.
-use mathlib.Core.Path.{◌≡◌, refl, sym, ◌∙◌}
-use mathlib.Core.Bool.{Bool, true, false, ◌&&◌, and-false, true≢false}
+use mathlib.Core.Path.{◌≡◌, refl, ◌∙◌}
+use mathlib.Core.Bool.{Bool, true, false, ◌&&◌, and-false}
 use mathlib.Core.List.{List, [], ◌∷◌}
 use Prim.Native.Nat.{ℕ, ◌+◌, ◌*◌, ◌-◌, ◌≤◌, ◌<◌}
 use native.Mathlib.Nat.{mul-one, mul-le-mul_left}
 use native.Mathlib.Numerals.{add-one}
 use native.Mathlib.Omega.{arith}
-use borrow.Author.Tests.{lt-ltb, le-ltb, le-leb, lt-leb, ltb-true, ltb-false, leb-true}
+use borrow.Author.Tests.{lt-ltb, le-ltb, le-leb, lt-leb, ltb-true, ltb-false}
 use lib.Dec.{leb, ltb}
 use lib.ListN.{length, get_or, drop}
 use lib.Seq.{drop-cons, drop-length}
 use Rattle.std.proofs.lemmas.List.Recursion.{and_from_places, and_fails_at}
 use Rattle.std.specs.Prelude.{Option, Some, None, if◌then◌else◌}
-use Rattle.typed.specs.Numbers.{within, hexadecimal, digit_of, digit_in, digits_below, value_with, number_in, key_of, key_spelled}
-
-pub both : (a b : Bool) → (a && b) ≡ true → (a ≡ true) × (b ≡ true)
-both true true e = (refl, refl)
-both true false e = absurd (true≢false (sym e))
-both false b e = absurd (true≢false (sym e))
+use Rattle.typed.specs.Numbers.{within, digit_of, digit_in, digits_below, value_with, number_in, key_of, key_spelled}
 
 module _ (first last byte : ℕ) where
   pub is_within : first ≤ byte → byte ≤ last → within first last byte ≡ true
@@ -84,15 +79,6 @@ module _ (byte : ℕ) where
       go : (t : Bool) → ltb (digit_of byte) 16 ≡ t → (if t then Some (digit_of byte) else None) ≡ Some own → (own ≡ digit_of byte) × (own < 16)
       go true below e = let is : own ≡ digit_of byte = cc in (is, rw is (ltb-true (digit_of byte) 16 below))
       go false other e = cc
-
-  pub some_digit : digit_of byte < 16 → digit_in 16 byte ≡ Some (digit_of byte)
-  unfolding digit_in
-  some_digit below = rw (lt-ltb (digit_of byte) 16 below)
-
--- what begins with 0x is two bytes long
-pub hexadecimal_long : (text : List ℕ) → hexadecimal text ≡ true → 2 ≤ length text
-unfolding hexadecimal
-hexadecimal_long text begins = leb-true 2 (length text) (both _ _ (both _ _ begins).0).0
 
 -- the number that is left to read after a value
 abbrev pub left : ℕ → ℕ → List ℕ → Option ℕ
