@@ -9,7 +9,7 @@ use row::writing::pulses;
 
 // Why a row stands in the way: it has a burnt bit that the wanted one lacks; it differs, from 0xf40 up; or it differs below that, where too
 // many do.
-#[derive(Clone, Copy)]
+#[derive(Clone, Copy, Debug, PartialEq, Eq)]
 pub(crate) enum Why {
     Lost,
     Kept,
@@ -17,7 +17,7 @@ pub(crate) enum Why {
 }
 
 // The first such row, and how many there are.
-#[derive(Clone, Copy)]
+#[derive(Clone, Copy, Debug, PartialEq, Eq)]
 pub(crate) struct Found {
     pub row: u32,
     pub rows: u32,
