@@ -40,7 +40,7 @@ struct LockWord {
     nokey: bool,
 }
 
-// The fields of a lock word's two rows. Each row is voted once.
+// The fields of a lock word's two rows.
 fn lock_word(low_row: u32, high_row: u32) -> LockWord
     ensures { result ≡ spec.lock_word low_row high_row }
 {
@@ -56,16 +56,15 @@ fn lock_word(low_row: u32, high_row: u32) -> LockWord
     }
 }
 
-// The lock word of each page.
-fn lock_words(rows: &Chip) -> [LockWord; 64]
-    ensures { result ≡ listed 64 (spec.lock_word_of rows.now) }
+// The lock word of a page.
+fn lock_word_of(rows: &Chip, at: usize) -> LockWord
+    requires { at < 64 }
+    ensures { result ≡ spec.lock_word_of rows.now at }
 {
-    array::from_fn(|at| {
-        let page = Page { number: at as u8 };
-        let low = page.low_lock_row() as usize;
-        let high = page.high_lock_row() as usize;
-        lock_word(rows[low], rows[high])
-    })
+    let page = Page { number: at as u8 };
+    let low = page.low_lock_row() as usize;
+    let high = page.high_lock_row() as usize;
+    lock_word(rows[low], rows[high])
 }
 
 // What reset latches of key k.
@@ -115,18 +114,18 @@ fn tallies_of(rows: &Chip) -> Tallies
     array::from_fn(|page| page_bits(rows, Page { number: page as u8 }))
 }
 
-// All that reset latches. The entered key is cleared, and the tallies are filled.
+// All that reset latches. The entered key is cleared, and the tallies are filled. Each field of the lock words is read by itself: an array of
+// all 64 words would stand on the stack beside the state.
 fn latched(rows: &Chip) -> State
     ensures { result ≡ spec.latched rows.now }
 {
-    let words = lock_words(rows);
     State {
-        secure: array::from_fn(|page| words[page].secure),
-        nonsecure: array::from_fn(|page| words[page].nonsecure),
-        bootloader: array::from_fn(|page| words[page].bootloader),
-        writekey: array::from_fn(|page| words[page].writekey),
-        readkey: array::from_fn(|page| words[page].readkey),
-        nokey: array::from_fn(|page| words[page].nokey),
+        secure: array::from_fn(|page| lock_word_of(rows, page).secure),
+        nonsecure: array::from_fn(|page| lock_word_of(rows, page).nonsecure),
+        bootloader: array::from_fn(|page| lock_word_of(rows, page).bootloader),
+        writekey: array::from_fn(|page| lock_word_of(rows, page).writekey),
+        readkey: array::from_fn(|page| lock_word_of(rows, page).readkey),
+        nokey: array::from_fn(|page| lock_word_of(rows, page).nokey),
         keys: six_keys(rows),
         entered: [0; 8],
         tallies: tallies_of(rows),
