@@ -1,15 +1,11 @@
 -- The list that the crew asks for, and the first of its rows that is out of place.
-use Rattle.std.specs.Prelude.{ℕ, zero, suc, ◌+◌, true, false, List, ◌≡◌, get_or, set, take}
+use Rattle.std.specs.Prelude.{ℕ, zero, suc, ◌+◌, true, false, List, ◌≡◌, set, take}
 use Rattle.repair.specs.Pass.{out_of_order}
 
 -- a list with so many rows put into it, from a row on
 unfoldable pub with_range : List ℕ → ℕ → ℕ → List ℕ
 with_range list from zero = list
 with_range list from (suc count) = set (with_range list from count) count (from + count)
-
--- the row at a place
-abbrev pub row_in : List ℕ → ℕ → ℕ
-row_in list place = get_or list place 0
 
 -- of a list that the pass refuses with 11: the rows before a place are in order, and with the row at it they are not
 abbrev pub FirstOut : List ℕ → ℕ → Type 0

@@ -1,65 +1,81 @@
 // Why no pass is made: the number, its words and, of a list out of place, the row and its line in the text that the list is from.
-use crate::lists::{first_out, row_in};
+use crate::lists::{first, first_out};
+use crate::pass::Pass;
 use chip::pages::Page;
 use console::options::Words;
 use console::word;
-use screen::print;
+use screen::shown::Row;
+use std::{fmt, io};
 use text::lists::read;
-use wording::refusals::{number_and_list_words, of_row};
+use wording::refusals::{ListNumbered, OfRow};
 use wording::row_names;
 
-// ": not above the row before it, row 0x0c1 after row 0x0c1"
-fn not_above(row: u32, before: u32) {
-    print::text(b": not above the row before it");
-    of_row(row);
-    print::text(b" after row ");
-    print::row(before);
+// What is wrong with the row at a place: ": not above the row before it, row 0x0c1 after row 0x0c1", or ": from 0xf40 up, row 0xf87 PAGE3_LOCK1".
+#[derive(Clone, Copy)]
+struct OutOfPlace<'a> {
+    list: &'a [u32],
+    place: usize,
 }
 
-// ": from 0xf40 up, row 0xf87 PAGE3_LOCK1"
-fn high(row: u32) {
-    print::text(b": from 0xf40 up");
-    of_row(row);
-    row_names::after(1, row);
-}
-
-fn out_of_place(list: &[u32], place: usize) {
-    let row = row_in(list, place);
-    if Page::FIRST_KEPT_ROW <= row {
-        high(row);
-        return;
-    }
-    if 0 < place {
-        not_above(row, row_in(list, place - 1));
+impl fmt::Display for OutOfPlace<'_> {
+    fn fmt<W: fmt::Write>(&self, f: &mut fmt::Formatter<W>) -> fmt::Result {
+        let Some(row) = self.list.get(self.place).copied() else {
+            return Ok(());
+        };
+        if Page::FIRST_KEPT_ROW <= row {
+            return write!(
+                f,
+                ": from 0xf40 up{}{}",
+                OfRow(row),
+                row_names::After(1, row)
+            );
+        }
+        match first(self.list, self.place).last() {
+            Some(before) => {
+                let before = Row(*before);
+                write!(
+                    f,
+                    ": not above the row before it{} after row {before}",
+                    OfRow(row)
+                )
+            }
+            None => Ok(()),
+        }
     }
 }
 
 // "   it is line 3 of rows.txt", where the list is from a text: that is read again, as far as the row. Its rows are not wanted, and only the first
 // is kept.
-fn text_line(rt: &HostRuntime, words: Words, text: &[u8], place: usize) {
-    if words.rows == 0 {
-        return;
-    }
+fn text_line(rt: &HostRuntime, words: Words, text: &[u8], place: usize) -> io::Result<()> {
+    let Some(from) = words.rows else {
+        return Ok(());
+    };
     if 4096 < place {
-        return;
+        return Ok(());
     }
     let mut kept = [0u32; 1];
-    let reading = read(text, &mut kept, place as u32 + 1);
-    print::number_after(b"   it is line ", reading.line);
-    print::text(b" of ");
-    word::print(rt, words.rows);
-    print::end();
+    let reading = match read(text, &mut kept, place as u32 + 1) {
+        Ok(reading) => reading,
+        Err(wrong) => wrong.reading,
+    };
+    print!(rt; "   it is line {} of ", reading.line)?;
+    word::print(rt, from)?;
+    println!(rt; "")
 }
 
-pub(crate) fn lines(rt: &HostRuntime, words: Words, number: u32, list: &[u32], text: &[u8]) {
-    number_and_list_words(number);
+pub(crate) fn lines(
+    rt: &HostRuntime,
+    words: Words,
+    pass: &Pass<'_>,
+    number: u32,
+) -> io::Result<()> {
     if number == 11 {
+        let list = pass.list;
         let place = first_out(list);
-        out_of_place(list, place);
-        print::end();
-        text_line(rt, words, text, place);
+        println!(rt; "{}{}", ListNumbered(number), OutOfPlace { list, place })?;
+        text_line(rt, words, pass.text, place)?;
     } else {
-        print::end();
+        println!(rt; "{}", ListNumbered(number))?;
     }
-    print::line(b"no row changes");
+    println!(rt; "no row changes")
 }

@@ -6,4 +6,5 @@ mod finds;
 mod list_errors;
 mod lists;
 pub mod mend;
+mod pass;
 mod show;

@@ -37,13 +37,3 @@ pub(crate) fn first_out(list: &[u32]) -> usize
     }
     0
 }
-
-// The row at a place of a list, and 0 past its end.
-pub(crate) fn row_in(list: &[u32], place: usize) -> u32
-    ensures { result ≡ spec.row_in list.now place }
-{
-    if list.len() <= place {
-        return 0;
-    }
-    list[place]
-}

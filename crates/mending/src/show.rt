@@ -1,138 +1,147 @@
 // The screen of repair: a line for each listed row that is not clean, what each page gains, and how many rows there are of each kind.
-use crate::finds::{Count, all, found_by, listed, none, with};
-use crate::lists::row_in;
+use crate::finds::{found_by, kind_of};
+use crate::pass::Pass;
 use answer::answers::Condition;
 use chip::callers::SECURE;
 use chip::slices::row_at;
-use chip::state::State;
+use chip::state::Outcome;
 use decode::reading::read_row;
 use repair::finding::Found;
-use screen::print;
+use screen::shown::{Bits, Counted, Row, Value};
+use std::{fmt, io};
+use wording::counts::Count;
 use wording::levels::{Levels, levels_of};
 use wording::{burnt, refusals, row_names};
 
-fn titles() {
-    print::left(b"row", 7);
-    print::left(b"old", 12);
-    print::left(b"new", 10);
-    print::line(b"what was found");
-}
+// Why a row that decodes, and is neither clean nor mended, is worn, by the bits that it holds: its condition says so.
+#[derive(Clone, Copy)]
+struct WornBy(u32);
 
-// " -> 0x2a004c  mended: bit 3 burnt, reads 0x004c"
-fn mended(left: u32, bit: u32) {
-    let read = read_row(left);
-    print::bits_after(b" -> ", left);
-    print::number_after(b"  mended: bit ", bit);
-    print::value_after(b" burnt, reads ", read.value);
-}
-
-// Why a row that decodes, and is neither clean nor mended, is worn: its condition says so.
-fn worn(held: u32) {
-    let read = read_row(held);
-    let condition = read.condition;
-    print::text(b"worn but not mendable: ");
-    if let Condition::Repaired(bit) = condition {
-        print::number_after(b"a 1 too many, bit ", bit);
-        return;
-    }
-    print::text(b"flag bits disagree");
-}
-
-// A write needs both levels at 0.
-fn not_permitted(levels: Levels) {
-    print::number_after(b"not permitted: Secure level ", levels.secure);
-    print::number_after(b", key level ", levels.key);
-}
-
-// What stands behind the bits that a row held.
-fn what(found: Found, held: u32, left: u32, levels: Levels) {
-    if let Found::Mended(bit) = found {
-        mended(left, bit);
-        return;
-    }
-    print::blanks(14);
-    match found {
-        Found::Worn => worn(held),
-        Found::Damaged => {
-            print::text(b"damaged: ");
-            refusals::words(8);
+impl fmt::Display for WornBy {
+    fn fmt<W: fmt::Write>(&self, f: &mut fmt::Formatter<W>) -> fmt::Result {
+        match read_row(self.0).condition {
+            Condition::Repaired(bit) => write!(f, "a 1 too many, bit {bit}"),
+            _ => f.write_str("flag bits disagree"),
         }
-        _ => not_permitted(levels),
     }
 }
 
-// "0x0c1  0x2a0044 -> 0x2a004c  mended: bit 3 burnt, reads 0x004c", and the row's name
-fn line(row: u32, found: Found, held: u32, left: u32, levels: Levels) {
-    print::row(row);
-    print::bits_after(b"  ", held);
-    what(found, held, left, levels);
-    row_names::after(2, row);
-    print::end();
+// A row that is not clean, what was found of it, what it held and what it is left with, and the levels of its page, which a write needs both at 0:
+// "0x0c1  0x2a0044 -> 0x2a004c  mended: bit 3 burnt, reads 0x004c", and the row's name.
+#[derive(Clone, Copy)]
+struct Listed {
+    row: u32,
+    found: Found,
+    held: u32,
+    left: u32,
+    levels: Levels,
 }
 
-fn is_clean(found: Found) -> bool {
-    if let Found::Clean = found {
-        return true;
+impl fmt::Display for Listed {
+    fn fmt<W: fmt::Write>(&self, f: &mut fmt::Formatter<W>) -> fmt::Result {
+        let Listed {
+            row,
+            found,
+            held,
+            left,
+            levels,
+        } = *self;
+        write!(f, "{}  {}", Row(row), Bits(held))?;
+        match found {
+            Found::Mended(bit) => {
+                let value = Value(read_row(left).value);
+                write!(
+                    f,
+                    " -> {}  mended: bit {bit} burnt, reads {value}",
+                    Bits(left)
+                )?;
+            }
+            Found::Worn => write!(f, "{:14}worn but not mendable: {}", "", WornBy(held))?,
+            Found::Damaged => write!(f, "{:14}damaged: {}", "", refusals::Words(8))?,
+            _ => {
+                let Levels {
+                    own: _,
+                    secure,
+                    key,
+                } = levels;
+                write!(
+                    f,
+                    "{:14}not permitted: Secure level {secure}, key level {key}",
+                    ""
+                )?;
+            }
+        }
+        write!(f, "{}", row_names::After(2, row))
     }
-    false
 }
 
 // A line for each row that is not clean, with the titles before the first. How many there are of each kind.
-fn lines(before: &[u32], after: &[u32], state: State, list: &[u32], report: &[u32]) -> Count {
-    let mut count = none();
-    for place in 0..list.len() {
-        let row = list[place];
-        let found = found_by(row_in(report, place));
-        if !is_clean(found) {
-            if listed(count) == 0 {
-                titles();
+fn lines(rt: &HostRuntime, pass: &Pass<'_>, after: &[u32], report: &[u32]) -> io::Result<Count> {
+    let before = pass.before;
+    let mut count = Count::default();
+    for (row, entry) in pass.list.iter().zip(report.iter()) {
+        let row = *row;
+        let found = found_by(*entry);
+        if !matches!(found, Found::Clean) {
+            if count.not_clean() == 0 {
+                println!(rt;
+                    "{:<7}{:<12}{:<10}{}",
+                    "row", "old", "new", "what was found"
+                )?;
             }
-            let levels = levels_of(state, SECURE, row);
-            line(row, found, row_at(before, row), row_at(after, row), levels);
+            let held = row_at(before, row);
+            let left = row_at(after, row);
+            let levels = levels_of(pass.state, SECURE, row);
+            println!(rt;
+                "{}",
+                Listed {
+                    row,
+                    found,
+                    held,
+                    left,
+                    levels
+                }
+            )?;
         }
-        count = with(count, found);
+        count.add(kind_of(found));
     }
-    count
+    Ok(count)
 }
 
 // "7 rows looked at, 2 clean, 2 mended, 1 worn, 2 damaged, 0 not permitted, 2 pulses"
-fn last_line(count: Count, pulses: u32) {
-    print::counted(all(count), b"row");
-    print::number_after(b" looked at, ", count.clean);
-    print::number_after(b" clean, ", count.mended);
-    print::number_after(b" mended, ", count.worn);
-    print::number_after(b" worn, ", count.damaged);
-    print::number_after(b" damaged, ", count.denied);
-    print::text(b" not permitted, ");
-    print::counted(pulses, b"pulse");
-    print::end();
+fn last_line(rt: &HostRuntime, count: Count, pulses: u32) -> io::Result<()> {
+    let Count {
+        clean,
+        repaired,
+        worn,
+        damaged,
+        not_permitted,
+    } = count;
+    print!(rt;
+        "{} looked at, {clean} clean, {repaired} mended, ",
+        Counted(count.all(), "row")
+    )?;
+    print!(rt; "{worn} worn, {damaged} damaged, {not_permitted} not permitted, ")?;
+    println!(rt; "{}", Counted(pulses, "pulse"))
 }
 
-fn gains(before: State, after: State) {
-    let old = before.tallies;
-    let new = after.tallies;
-    burnt::gain_lines(old, new);
-}
-
-// The rows, then what they come to: the states are those before and after the pass.
+// The rows, then what they come to: those after the pass, the report that it left, and what came of it.
 pub(crate) fn rows(
-    before: &[u32; 4096],
-    after: &[u32; 4096],
-    state: State,
-    left: State,
-    list: &[u32],
-    report: &[u32; 4096],
-    pulses: u32,
-) {
-    refusals::number_and_words(0);
-    print::text(b"\n\n");
-    let count = lines(before, after, state, list, report);
-    if 0 < listed(count) {
-        print::end();
+    rt: &HostRuntime,
+    pass: &Pass<'_>,
+    after: &[u32],
+    report: &[u32],
+    outcome: Outcome,
+) -> io::Result<()> {
+    println!(rt; "{}\n", refusals::Numbered(0))?;
+    let count = lines(rt, pass, after, report)?;
+    if 0 < count.not_clean() {
+        println!(rt; "")?;
     }
-    gains(state, left);
-    if count.mended == 0 {
-        print::line(b"nothing to mend: no row changes");
+    let left = outcome.state;
+    burnt::gain_lines(rt, pass.state.tallies, left.tallies)?;
+    if count.repaired == 0 {
+        println!(rt; "nothing to mend: no row changes")?;
     }
-    last_line(count, pulses);
+    last_line(rt, count, outcome.answer.pulses)
 }
