@@ -20,9 +20,9 @@ pub struct Board<'a> {
     pub bytes: [u8; 17],
 }
 
-impl Board<'_> {
+impl<'a> Board<'a> {
     // All open, no key.
-    pub fn blank(table: Table<'_>) -> Board<'_> {
+    pub fn blank(table: Table<'a>) -> Board<'a> {
         Board {
             table,
             rows: [0; ROWS],
@@ -36,12 +36,8 @@ impl Board<'_> {
 
     // Blank again: a scene begins.
     pub fn clear(&mut self) {
-        self.rows = [0; ROWS];
-        self.entries = 4096;
-        self.state = states::open();
-        self.hand = states::open();
-        self.words = [0; 8];
-        self.bytes = [0; 17];
+        let Table { rt, tally } = self.table;
+        *self = Board::blank(Table { rt, tally });
     }
 
     // The rows that a call is lent.
