@@ -1,7 +1,6 @@
-// What the programs share: how a line is written, how rows and bits are shown, and how many answers were compared.
+// What the programs share: how rows and bits are shown, and how a table counts what it compares.
 #![tactic(auto)]
 
-pub mod print;
 pub mod shown;
 pub mod table;
 pub mod tally;

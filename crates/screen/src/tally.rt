@@ -15,7 +15,7 @@ pub struct Tally {
 const MOST: u32 = 1000000;
 
 // The sum of two counts. Where one is past what a run can reach, it stops there and can't wrap.
-pub fn sum(count: u32, more: u32) -> u32
+fn sum(count: u32, more: u32) -> u32
     ensures { result ≡ spec.sum count more }
 {
     if MOST < count || MOST < more {
@@ -25,7 +25,7 @@ pub fn sum(count: u32, more: u32) -> u32
 }
 
 // One more where the test holds.
-pub fn one_more(count: u32, holds: bool) -> u32
+fn one_more(count: u32, holds: bool) -> u32
     ensures { result ≡ spec.one_more count holds }
 {
     if holds { sum(count, 1) } else { count }
