@@ -18,6 +18,7 @@ fn contents(rt: &HostRuntime, place: usize, bytes: &mut [u8]) -> Result<Option<u
     let mut path = io::buffer();
     let n = word::put(rt, place, &mut path)?;
     let mut file = File::open(rt, named(&path[..n])?)?;
+    // std::io has no call that fills as much of an array as there is, but into a Vec.
     let got = io::read_full(file.as_raw_fd(), bytes);
     let mut next = [0u8; 1];
     let more = file.read(&mut next)?;

@@ -49,6 +49,7 @@ fn many(rt: &HostRuntime, rows: u32) -> io::Result<()> {
     println!(rt; "{}: {rows} do", Numbered(14))
 }
 
+// An answer has its number alone (the C interface), so the cases go by that.
 fn reason(rt: &HostRuntime, number: u32, present: &[u32], wanted: &[u32]) -> io::Result<()> {
     let why = match number {
         3 => return too_large(rt, present, wanted),

@@ -16,7 +16,7 @@ pub(crate) enum Why {
     Changed,
 }
 
-// The first such row, and how many there are.
+// The first such row, and how many there are. Where there is none both are 0, as `found_below` and `First` (specs/Found.antt) have it.
 #[derive(Clone, Copy, Debug, PartialEq, Eq)]
 pub(crate) struct Found {
     pub row: u32,
