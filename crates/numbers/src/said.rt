@@ -11,7 +11,8 @@ pub struct Said {
     pub tally: Option<u32>,
 }
 
-// What a number that is left out, or written as a dash, stands as.
+// What a number that is left out, or written as a dash, stands as while a line is read: no Option, since what is printed of a line
+// that writes this number itself must stay.
 pub const NONE: u32 = 4294967295;
 
 // A number, unless it is left out.
