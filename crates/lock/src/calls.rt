@@ -7,7 +7,7 @@ use answer::answers::{Answer, done, told};
 use answer::refusals::Refusal;
 use chip::callers::{BOOTLOADER, LAST_CALLER, LAST_DOMAIN, NONSECURE, SECURE, shown_level};
 use chip::pages::Page;
-use chip::state::{Outcome, State};
+use chip::state::{Outcome, State, refusal};
 use std::array;
 
 // Callers, domains, pages and levels are numbers here, since any number may come in, from C too, and each call says which it refuses.
@@ -55,11 +55,8 @@ pub fn advance(state: State, caller: u32, domain: u32, page: u32, level: u32) ->
     ensures { result ≡ spec.advance state caller domain page level }
 {
     // Not by a `match` with an outcome in each arm: by that one state more stood on the stack.
-    if let Err(refusal) = check_advance(caller, domain, page, level) {
-        return Outcome {
-            answer: refusal.into(),
-            state,
-        };
+    if let Err(refused) = check_advance(caller, domain, page, level) {
+        return refusal(refused.number(), state);
     }
     let answer = done();
     let next = advanced(state, domain, page, level);
@@ -128,11 +125,8 @@ pub fn enter_key(state: State, caller: u32, key: &[u8]) -> Outcome
     ensures { result ≡ spec.enter_key state caller key.now }
 {
     // As in `advance`; and the state is copied as a whole, as in burn's `beside`.
-    if let Err(refusal) = check_enter(caller, key) {
-        return Outcome {
-            answer: refusal.into(),
-            state,
-        };
+    if let Err(refused) = check_enter(caller, key) {
+        return refusal(refused.number(), state);
     }
     let words = key_words(key);
     let mut next = state;
