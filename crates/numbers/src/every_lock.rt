@@ -17,48 +17,56 @@ const NUMBERS: [[u32; 3]; 3] = [[0, 0, 7], [7, 0, 7], [7, 7, 7]];
 // The page that is advanced.
 const PAGE: u32 = 13;
 
-// The other domains have other levels, so that one taken for another shows.
-fn with_present(domain: u32, present: u32) -> State
-    requires { domain < 3 }
-{
-    let secure = (present % 3 + 3 - domain) % 3;
-    let levels = [secure, (secure + 1) % 3, (secure + 2) % 3];
-    states::with_levels(State::zeros(), PAGE, levels)
+// A caller, who advances and shows a lock of a domain, and the number that the advance answers.
+#[derive(Clone, Copy)]
+struct Case {
+    caller: u32,
+    domain: u32,
+    number: u32,
+    ghost known: { domain < 3 },
 }
 
-// Whether an advance answers its number, and leaves the level that it must.
-fn advance_is_right(caller: u32, domain: u32, number: u32, present: u32, asked: u32) -> bool
-    requires { domain < 3 }
-{
-    let state = with_present(domain, present);
-    let outcome = advance(state, caller, domain, PAGE, asked);
-    let must = if number == 0 { done() } else { refused(number) };
-    let left = if number == 0 && present < asked {
-        states::with_level(state, domain, PAGE, asked)
-    } else {
-        state
-    };
-    outcome.answer == must && outcome.state == left
-}
-
-fn show_is_right(caller: u32, domain: u32, present: u32) -> bool
-    requires { domain < 3 }
-{
-    show(with_present(domain, present), caller, domain, PAGE) == told(present)
-}
-
-// Nine advances, by the present and the asked level, and three shows: how many are right.
-fn right(caller: u32, domain: u32, number: u32) -> u32
-    requires { domain < 3 }
-{
-    let mut right = 0;
-    for present in 0..3 {
-        for asked in 0..3 {
-            right += u32::from(advance_is_right(caller, domain, number, present, asked));
-        }
-        right += u32::from(show_is_right(caller, domain, present));
+impl Case {
+    // The other domains have other levels, so that one taken for another shows.
+    fn with_present(self, present: u32) -> State {
+        let secure = (present % 3 + 3 - self.domain) % 3;
+        let levels = [secure, (secure + 1) % 3, (secure + 2) % 3];
+        states::with_levels(State::zeros(), PAGE, levels)
     }
-    right
+
+    // Whether the advance answers its number, and leaves the level that it must.
+    fn advance_is_right(self, present: u32, asked: u32) -> bool {
+        let state = self.with_present(present);
+        let outcome = advance(state, self.caller, self.domain, PAGE, asked);
+        let done_at_all = self.number == 0;
+        let must = if done_at_all {
+            done()
+        } else {
+            refused(self.number)
+        };
+        let left = if done_at_all && present < asked {
+            states::with_level(state, self.domain, PAGE, asked)
+        } else {
+            state
+        };
+        outcome.answer == must && outcome.state == left
+    }
+
+    fn show_is_right(self, present: u32) -> bool {
+        show(self.with_present(present), self.caller, self.domain, PAGE) == told(present)
+    }
+
+    // Nine advances, by the present and the asked level, and three shows: how many are right.
+    fn right(self) -> u32 {
+        let mut right = 0;
+        for present in 0..3 {
+            for asked in 0..3 {
+                right += u32::from(self.advance_is_right(present, asked));
+            }
+            right += u32::from(self.show_is_right(present));
+        }
+        right
+    }
 }
 
 pub fn all(table: &mut Table) -> io::Result<()> {
@@ -66,7 +74,12 @@ pub fn all(table: &mut Table) -> io::Result<()> {
     println!(table.rt; "caller      domain      advance  as it must be")?;
     for (caller, numbers) in NUMBERS.iter().enumerate() {
         for (domain, number) in numbers.iter().enumerate() {
-            let right = right(caller as u32, domain as u32, *number);
+            let case = Case {
+                caller: caller as u32,
+                domain: domain as u32,
+                number: *number,
+            };
+            let right = case.right();
             print!(table.rt;
                 "{:<12}{:<12}{number}{right:9} of 12 ",
                 NAMES[caller], NAMES[domain]

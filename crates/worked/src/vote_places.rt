@@ -9,38 +9,44 @@ use vote::voting::vote;
 
 const FULL: u32 = 0xffffff;
 
-// Of the first `count` rows `held` have the bit. The rows past them are full: a vote that counted one of
-// them would show it.
-fn rows_with(count: usize, turn: u32, held: u32, bit: u32) -> [u32; 8]
-    requires { (count ≤ 8) × (turn < 24) }
-{
-    let mut rows = [FULL; 8];
-    for row in 0..count {
-        let has = (row + turn as usize) % count < held as usize;
-        rows[row] = if has { bit } else { 0 };
+// A vote of so many rows, and how many of them must have a bit.
+#[derive(Clone, Copy)]
+struct Ballot {
+    count: usize,
+    least: u32,
+    ghost few: { count ≤ 8 },
+}
+
+impl Ballot {
+    // `held` of the first rows have the bit. The rows past those of the vote are full: a vote that counted one of them would show it.
+    fn rows(self, turn: u32, held: u32, bit: u32) -> [u32; 8]
+        requires { turn < 24 }
+    {
+        let mut rows = [FULL; 8];
+        for row in 0..self.count {
+            let has = (row + turn as usize) % self.count < held as usize;
+            rows[row] = if has { bit } else { 0 };
+        }
+        rows
     }
-    rows
-}
 
-// At how many places a vote is right, where `held` of `count` rows have the bit.
-fn right_of(count: usize, least: u32, held: u32) -> u32
-    requires { count ≤ 8 }
-{
-    places(24, |place| {
-        let bit = 1 << place;
-        let rows = rows_with(count, place, held, bit);
-        let must = if least <= held { bit } else { 0 };
-        vote(&rows[..count], least) == must
-    })
-}
+    // At how many places the vote is right, where `held` of its rows have the bit.
+    fn right(self, held: u32) -> u32 {
+        places(24, |place| {
+            let bit = 1 << place;
+            let rows = self.rows(place, held, bit);
+            let must = if self.least <= held { bit } else { 0 };
+            vote(&rows[..self.count], self.least) == must
+        })
+    }
 
-fn places_line(table: &mut Table, count: usize, least: u32, held: u32) -> io::Result<()>
-    requires { count ≤ 8 }
-{
-    let right = right_of(count, least, held);
-    let voted = if least <= held { "set  " } else { "clear" };
-    print!(table.rt; "{held} of {count} rows    {}   ", Share(right, 24, voted))?;
-    table.verdict_of_many(right, 24)
+    fn line(self, table: &mut Table, held: u32) -> io::Result<()> {
+        let right = self.right(held);
+        let voted = if self.least <= held { "set  " } else { "clear" };
+        let count = self.count;
+        print!(table.rt; "{held} of {count} rows    {}   ", Share(right, 24, voted))?;
+        table.verdict_of_many(right, 24)
+    }
 }
 
 pub fn run(table: &mut Table) -> io::Result<()> {
@@ -49,11 +55,13 @@ pub fn run(table: &mut Table) -> io::Result<()> {
         "Votes on each of the 24 places by itself",
         "have the bit   places",
     )?;
+    let of_three = Ballot { count: 3, least: 2 };
     for held in 0..4 {
-        places_line(table, 3, 2, held)?;
+        of_three.line(table, held)?;
     }
+    let of_eight = Ballot { count: 8, least: 3 };
     for held in 0..9 {
-        places_line(table, 8, 3, held)?;
+        of_eight.line(table, held)?;
     }
     Ok(())
 }
