@@ -30,6 +30,7 @@ pub fn check_row(rows: &[u32], state: State, may: bool, row: u32) -> Result<(), 
 }
 
 // Whether a call on one row is refused before the row is used. `coded` says whether it goes by ECC, `too_large` whether its value is.
+// What a call takes goes in each by itself, as C's calls take it and `call_rungs` has it: a struct of it is no plainer.
 #[tactic(auto, unfolding(crate::specs::Judging::call_rungs))]
 pub fn check_call(
     rows: &[u32],

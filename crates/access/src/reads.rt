@@ -26,7 +26,7 @@ fn readable(rows: &[u32], state: State, caller: u32, row: u32, coded: bool) -> R
     Ok(row_at(rows, row))
 }
 
-// Reads a row as it is.
+// Reads a row as it is. It and the next differ in what an `Ok` is read by: one function with a closure is no plainer.
 #[tactic(auto, using(answer::proofs::Numbered::not_done), unfolding(crate::specs::Reads::read_raw))]
 pub fn read_raw(rows: &[u32], state: State, caller: u32, row: u32) -> Answer
     ensures { result ≡ spec.read_raw rows.now state caller row }

@@ -19,6 +19,7 @@ pub enum Polarity {
     Inverted = 1,
 }
 
+// One record with its number, and no `Result`: so the definitions and the theorems have it, and C takes it (`otp_answer`).
 // The number, the value that was read, the condition of the row and its polarity, the place in a job, and the pulses spent.
 #[derive(Clone, Copy, Debug, PartialEq, Eq)]
 pub struct Answer {
@@ -30,6 +31,7 @@ pub struct Answer {
     pub pulses: u32,
 }
 
+// By its number, and not by `Refusal`: it is promised of every number, as its definition is.
 // A refusal: its number, value 0, clean, plain, 0 pulses, and of a job the place of the refused entry.
 pub fn refused_at(number: u32, place: u32) -> Answer
     ensures { result ≡ spec.refused_at number place }
@@ -44,7 +46,7 @@ pub fn refused_at(number: u32, place: u32) -> Answer
     }
 }
 
-// A refusal outside jobs and rehearsals.
+// A refusal outside jobs and rehearsals, by its number too.
 pub fn refused(number: u32) -> Answer
     ensures { result ≡ spec.refused number }
 {

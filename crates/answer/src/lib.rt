@@ -1,4 +1,4 @@
-// What every call answers (document 01, "The numbers we answer with"): the answer, and the numbers of its condition and polarity. Its
+// What every call answers (document 01, "The numbers we answer with"): the answer, the refusals by name, and the numbers of its condition and polarity. Its
 // definitions say besides how a call's number is found.
 #![tactic(auto)]
 

@@ -39,6 +39,6 @@ one_row number rows state row written =
     else kept state rows number 0
 
 -- a write of one row as the code has it: a row burnt, or the refusal
-abbrev pub left_by : List ℕ → State → ℕ → Result Burnt Refusal → Left
-left_by rows state row (Ok done) = burnt state (row gains done.pulses ∷ []) (set rows row done.row) 0 done.pulses
-left_by rows state row (Err refusal) = kept state rows (refusal_number refusal) 0
+abbrev pub burnt_or_kept : List ℕ → State → ℕ → Result Burnt Refusal → Left
+burnt_or_kept rows state row (Ok done) = burnt state (row gains done.pulses ∷ []) (set rows row done.row) 0 done.pulses
+burnt_or_kept rows state row (Err refusal) = kept state rows (refusal_number refusal) 0

@@ -3,7 +3,7 @@ ghost use Rattle.std.specs.Prelude.{◌≡◌, IfOk};
 ghost use Rattle.answer.specs.Refusals.{number_of};
 ghost use Rattle.row.specs.Writing.{raw_written as written_raw, ecc_written as written_ecc, done_with};
 ghost use Rattle.chip.specs.Slices.{row_at};
-ghost use Rattle.burn.specs.Burning.{left_by};
+ghost use Rattle.burn.specs.Burning.{burnt_or_kept};
 ghost use Rattle.burn.specs.Writes as spec;
 
 use crate::burning::{beside, burn_row};
@@ -14,6 +14,9 @@ use chip::slices::{MOST_HELD, row_at};
 use chip::state::{Outcome, State};
 use permit::permission::may_write;
 use row::writing::Burnt;
+
+// The two writes stand side by side: they differ in three arguments, and in whether the row itself can refuse. By one function with a closure they
+// would be no plainer.
 
 // What a raw write burns into a row, or why it is refused.
 fn raw_burnt(
@@ -50,8 +53,8 @@ fn ecc_burnt(
 
 // Burns a row where its write is let, and counts its new bits. One that is refused leaves the rows and the state as they were.
 fn burn(rows: &mut [u32], state: State, row: u32, written: Result<Burnt, Refusal>) -> Outcome
-    ensures { (result ≡ (left_by rows.old state row written).outcome)
-        × (rows.new ≡ (left_by rows.old state row written).rows) }
+    ensures { (result ≡ (burnt_or_kept rows.old state row written).outcome)
+        × (rows.new ≡ (burnt_or_kept rows.old state row written).rows) }
 {
     match written {
         Ok(burnt) => {

@@ -72,7 +72,7 @@ pub struct Outcome {
     pub state: State,
 }
 
-// The outcome of a refusal, which leaves the state as it was.
+// The outcome of a refusal, which leaves the state as it was. By its number, as `refused` is.
 pub fn refusal(number: u32, state: State) -> Outcome
     ensures { result ≡ spec.refusal number state }
 {

@@ -36,10 +36,8 @@ fn decoded(bits: u32) -> Result<Held, Refusal>
     let value = own % 65536;
     let syndrome = ((own ^ code(value as u16)) >> 16) % 64;
     if syndrome == 0 {
-        return Ok(Held {
-            value,
-            repaired: None,
-        });
+        let repaired = None;
+        return Ok(Held { value, repaired });
     }
     let place = match syndrome {
         0x23 => 0,
@@ -66,10 +64,9 @@ fn decoded(bits: u32) -> Result<Held, Refusal>
         0x20 => 21,
         _ => return Err(Refusal::NotDecoded),
     };
-    Ok(Held {
-        value: (own ^ (1 << place)) % 65536,
-        repaired: Some(place),
-    })
+    let value = (own ^ (1 << place)) % 65536;
+    let repaired = Some(place);
+    Ok(Held { value, repaired })
 }
 
 // Which polarity a row is in.
@@ -104,7 +101,8 @@ fn said_of(row: u32, held: Held) -> Answer
     found_in(polarity, held.value, condition)
 }
 
-// A row read with ECC. A refusal says neither polarity nor wear.
+// A row read with ECC. A refusal says neither polarity nor wear. It answers as a call does, by a number: so its definition says it, on which
+// reads, reset and repair rest.
 pub fn read_row(row: u32) -> Answer
     ensures { result ≡ spec.read_row row }
 {

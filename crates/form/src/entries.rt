@@ -32,6 +32,7 @@ struct Cut<'a> {
 impl<'a> ByteSource for Cut<'a> {
     ghost bytes = { λ cut. cut.job.now };
 
+    // It may be read anywhere that a place can be counted: 2 ^ 41 is above every place that is asked for.
     ghost end = { λ cut. 2 ^ 41 };
 
     fn byte(&self, at: usize) -> u32 {
@@ -55,7 +56,7 @@ impl<'a> ByteSource for Whole<'a> {
     }
 }
 
-// The byte at a place, and 0 past the end.
+// The byte at a place, and 0 past the end. By a test, since every byte of a job goes through here, and `get` is no plainer.
 pub fn byte_at(job: &[u8], at: usize) -> u32
     ensures value { result ≡ spec.byte_at job.now at }
     ensures upper_bound { result < 256 }
@@ -106,6 +107,7 @@ pub fn count_of(job: &[u8]) -> u32
     two_at(&Cut { job }, 5)
 }
 
+// Entries are taken by their index: a refusal names it, and an iterator that counts along is no plainer.
 // The i-th entry of a job. All entries of a sound job are whole: so its bytes are not asked for one by one.
 #[tactic(auto, unfolding(crate::specs::Entries::entry_at))]
 pub fn entry_at(job: &[u8], i: u32) -> Entry

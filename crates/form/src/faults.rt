@@ -60,7 +60,7 @@ impl From<Fault> for Refusal {
     }
 }
 
-// The number of a fault, and 0 where there is none.
+// The number of a fault, and 0 where there is none: the early word of a chunk is the value of an answer (request 2026-01).
 pub fn fault_number(judged: Result<(), Fault>) -> u32
     ensures { result ≡ spec.fault_number (said judged) }
 {
@@ -101,7 +101,7 @@ fn head_fault(job: &[u8], version: u32) -> Result<(), Fault>
     Ok(())
 }
 
-// The fault of an entry's form.
+// The fault of an entry's form. Its index, the least row and the entry go in each by itself, here and below, as the definitions have them.
 pub fn form_fault(i: u32, entry: Entry) -> Result<(), Fault>
     ensures { said result ≡ spec.form_fault i entry }
 {

@@ -14,7 +14,7 @@ fn put(job: &mut [u8], at: usize, number: u32)
     }
 }
 
-// Puts a number of 16 bits.
+// Puts a number of 16 bits. The bytes, a place and a number go in each by itself, as `with_bytes` has them.
 #[tactic(auto, unfolding(crate::specs::Writing::with_bytes))]
 fn put_two(job: &mut [u8], at: usize, number: u32)
     requires { at + 2 < 2 ^ 40 }
@@ -34,7 +34,7 @@ fn put_three(job: &mut [u8], at: usize, number: u32)
     put(job, at + 2, number / 65536);
 }
 
-// Puts the mark, the version and the count of a job.
+// Puts the mark, the version and the count of a job. The mark has three bytes: a loop over them is no plainer.
 #[tactic(auto, unfolding(crate::specs::Writing::with_bytes))]
 pub fn put_head(job: &mut [u8], version: u32, count: u32)
     ensures { job.new ≡ spec.with_head job.old version count }

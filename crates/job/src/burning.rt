@@ -28,6 +28,7 @@ fn name_rest(tallies: &mut [u16], job: &[u8], first: u32, count: u32)
     }
 }
 
+// The count stands beside the job, since this is promised of any first entries of it.
 // Burns the first `count` entries in order until the pulses of the limit are spent, and counts the new bits of each.
 pub fn rehearsed(
     rows: &mut [u32],

@@ -2,11 +2,8 @@
 ghost use Rattle.std.specs.Prelude.{◌≡◌, ◌+◌, ◌<◌, ◌≤◌, ◌^◌, length, sum_by, IfOk};
 ghost use Rattle.answer.specs.Refusals.{number_of};
 ghost use Rattle.chip.specs.Lists.{listed};
-ghost use Rattle.chip.specs.Pages.{first_row, low_lock_row, high_lock_row};
-ghost use Rattle.chip.specs.Slices.{row_at};
 ghost use Rattle.row.specs.Code.{set_bits};
 ghost use Rattle.chip.specs.Tallies.{page_rows, bits_of, tallies_of};
-ghost use Rattle.latch.specs.Locks.{level_of, secure_field, nonsecure_field, bootloader_field, write_key_field, read_key_field, no_key_field};
 ghost use Rattle.latch.specs.Resetting as spec;
 
 use crate::locks::{level_of, voted_byte};

@@ -1,7 +1,7 @@
 // The early word of a chunk: the first fault among what its bytes bring to an end (request 2026-01).
 ghost use Rattle.std.specs.Prelude.{◌≡◌, ◌-◌, ◌≤◌, ◌<◌};
 ghost use Rattle.form.specs.Entries.{entries_from};
-ghost use Rattle.form.specs.Faults.{◌otherwise◌, form_fault, row_fault, rule_of};
+ghost use Rattle.form.specs.Faults.{◌otherwise◌, form_fault, row_fault};
 ghost use Rattle.form.specs.Said.{said};
 ghost use Rattle.lead.specs.Early as spec;
 ghost use Rattle.lead.specs.Notes as notes;
@@ -9,7 +9,7 @@ ghost use Rattle.lead.specs.Notes as notes;
 use crate::notes::{AREA_BYTES, Note, ended_in};
 use crate::so_far::FileSoFar;
 use form::entries::{Entry, byte_at, count_of, version_of};
-use form::faults::{Fault, MOST_ENTRIES, form_fault, row_fault};
+use form::faults::{Fault, MOST_ENTRIES, form_fault, row_fault, rule_of};
 
 // What came of a file: the bytes of its area from a start up to a stop.
 #[derive(Clone, Copy)]
@@ -27,7 +27,7 @@ impl<'a> Came<'a> {
         (self.start..self.stop).contains(&place)
     }
 
-    // Whether a byte of the mark came and is another.
+    // Whether a byte of the mark came and is another: each is judged as it comes.
     fn spoils(&self, place: u32, byte: u32) -> bool
         ensures { result ≡ spec.spoils self.now.area.now self.now.start self.now.stop place byte }
     {
@@ -64,16 +64,6 @@ impl<'a> Came<'a> {
         }
         Ok(())
     }
-}
-
-// The rule that a file is judged by: that of version 2 where that is its version, and else that of version 1.
-fn rule_of(area: &[u8]) -> u32
-    ensures { result ≡ rule_of area.now }
-{
-    if version_of(area) == 2 {
-        return 2;
-    }
-    1
 }
 
 // The fault of an entry: of its form, and then of its row.

@@ -40,6 +40,7 @@ pub fn end_job(rows: &mut [u32], state: State, area: &[u8], note: Note) -> Outco
         let answer = refusal.into();
         return Outcome { answer, state };
     }
+    // The note counts the bytes of the area, as C's `otp_note` has it.
     let counted = note.counted as usize;
     rehearse(rows, state, &area[..counted], MOST_PULSES)
 }

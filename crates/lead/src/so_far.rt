@@ -7,7 +7,7 @@ use crate::notes::{Note, Part, begun_in, ended_in};
 use form::entries::{ByteSource, Entry, byte_at, count_of, entry_at, entry_from, two_at};
 use std::array::from_fn;
 
-// An entry begun: its index, how many of its bytes came before, and these.
+// An entry begun: its index, how many of its bytes came before, and these: eight bytes with their number beside, as the note of C has them.
 #[derive(Clone, Copy, Debug, PartialEq, Eq)]
 pub struct Begun {
     pub index: u32,
@@ -25,7 +25,7 @@ pub(crate) struct FileSoFar<'a> {
     ghost before: { begun ≡ spec.begun_before area.now note },
 }
 
-// One of the bytes that a note has of an entry, of which it has room for eight.
+// One of the bytes that a note has of an entry, of which it has room for eight. Of an array in a struct behind a reference a proof does not know the length.
 fn part_at(part: Part, i: usize) -> u32
     requires { i < 8 }
     ensures value { result ≡ byte_at part i }
@@ -34,10 +34,11 @@ fn part_at(part: Part, i: usize) -> u32
     part[i] as u32
 }
 
-// It is read byte by byte, wherever: the bytes of the entry begun are those of the note, and all others the area's.
+// Any byte of it may be read: those of the entry begun are the note's, and all others the area's.
 impl<'a> ByteSource for FileSoFar<'a> {
     ghost bytes = { λ file. spec.so_far file.area.now file.note };
 
+    // It may be read anywhere that a place can be counted: 2 ^ 41 is above every place that is asked for.
     ghost end = { λ file. 2 ^ 41 };
 
     fn byte(&self, at: usize) -> u32 {

@@ -11,6 +11,7 @@ use chip::state::{Outcome, State, refusal};
 use std::array;
 
 // Callers, domains, pages and levels are numbers here, since any number may come in, from C too, and each call says which it refuses.
+// They go in each by itself, as C's calls take them.
 
 // Whether a show is refused. An advance is refused for the same first.
 fn check_show(caller: u32, domain: u32, page: u32) -> Result<(), Refusal>

@@ -37,6 +37,7 @@ pub(crate) fn all_compared(present: &[u32], wanted: &[u32]) -> Compared
     ensures { result ≡ spec.shown_below present.now wanted.now 4096 }
 {
     let mut shown = Compared::default();
+    // By its number, which a row is judged by: `zip` would count along besides.
     for row in 0..Page::CHIP_ROWS {
         shown = shown.with_row(row as u32, present[row], wanted[row]);
     }

@@ -44,6 +44,7 @@ pub fn matches(state: State, index: u32) -> bool
     key.whole & equal & !none
 }
 
+// A level stays a number: levels are compared by size, and a state from C may hold any byte.
 // The key level of a page. Level 1 is one path, whether the read key gives it or the no-key state.
 #[tactic(auto, unfolding(crate::specs::Keys::key_level))]
 pub fn key_level(state: State, page: Page) -> u32

@@ -14,7 +14,7 @@ pub fn row_key_level(state: State, row: u32) -> u32
     key_level(state, Page::key_page(row))
 }
 
-// The caller's level at a row.
+// The caller's level at a row. The state, the caller and the row go in each by itself, here and below, as the definitions have them.
 pub fn caller_level(state: State, caller: u32, row: u32) -> u32
     ensures { result ≡ spec.caller_level state caller row }
 {

@@ -58,7 +58,7 @@ pub fn found_of(may: bool, held: u32) -> Found
 }
 
 impl Found {
-    // Its kind in a report.
+    // Its kind in a report. A `match`, since `as` takes no enum of which a variant holds a bit.
     pub fn kind(self) -> u32
         ensures { result ≡ spec.kind_of self }
     {

@@ -16,7 +16,7 @@ pub(crate) fn writable_pages(state: State) -> [bool; 64]
     array::from_fn(|page| may_write(state, SECURE, Page::ROWS * page as u32))
 }
 
-// Whether that is so of a row's page.
+// Whether that is so of a row's page, which any pages may be asked.
 pub(crate) fn writable(pages: &[bool], row: u32) -> bool
     ensures { result ≡ spec.writable pages.now row }
 {

@@ -45,7 +45,7 @@ fn low_checks(entry: u32) -> u32
     }
 }
 
-// The same of the high data byte: of bits 11:8 with entries 0 to 15, of bits 15:12 with entries 16 to 31.
+// A table of its own: the two share their shape alone. The same of the high data byte: of bits 11:8 with entries 0 to 15, of bits 15:12 with entries 16 to 31.
 fn high_checks(entry: u32) -> u32
     requires { entry < 32 }
     ensures { result ≡ spec.code (entry % 16 * 16 ^ (entry / 16) * 256) / 2 ^ 16 }

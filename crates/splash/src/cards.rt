@@ -67,7 +67,7 @@ pub fn is_mark(first: u32, second: u32) -> bool
     first == Card::FIRST_MARK && second == Card::SECOND_MARK
 }
 
-// Whether a version is known.
+// Whether a version is known. It stays a number: a card may be asked for with any.
 pub fn known_version(version: u32) -> bool
     ensures { result ≡ spec.known_version version }
 {

@@ -13,7 +13,8 @@ use decode::reading::read_row;
 use permit::permission::may_read;
 
 // One of the card's rows, read with ECC by one who may read page 3, or may not. All six are in that page and none of them is a key's or a lock's:
-// so who may read them is looked up once.
+// so who may read them is looked up once, and the tests of access's `check_call` that can
+// answer stand here once more: 1, 7 and 3.
 fn read_card_row(rows: &[u32], may: bool, row: u32) -> Result<u32, Refusal>
     ensures number { number_of result ≡ (spec.read_where rows.now may row).number }
     ensures value { IfOk result (λ value. value ≡ (spec.read_where rows.now may row).value) }

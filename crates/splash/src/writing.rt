@@ -75,6 +75,7 @@ fn put_card(area: &mut [u8], card: Card)
     }
 }
 
+// The four numbers come as C's call takes them, and any may come: `Card::of` makes a card of them.
 // Writes a card: makes the job that burns it. Its length is the value.
 pub fn write_card(area: &mut [u8], version: u32, width: u32, height: u32, line: u32) -> Answer
     ensures { (result ≡ (spec.write_card area.old version width height line).answer)
