@@ -23,7 +23,7 @@ fn help(rt: &HostRuntime) -> Result<End, Stop> {
     Ok(End::Answered(0))
 }
 
-// Runs the command that is named. A name that is longer than any is none.
+// Runs the command that is named. A name that is longer than any is none. Its bytes stand in an array, since nothing is allocated.
 fn run(rt: &HostRuntime) -> Result<End, Stop> {
     let mut name = [0u8; 16];
     let n = rt.arg(word::command(rt), &mut name).unwrap_or(0);

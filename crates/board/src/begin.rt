@@ -23,6 +23,7 @@ pub fn after_reset(rt: &HostRuntime, rows: &[u32]) -> Result<State, Stop>
 {
     let outcome = reset(rows, State::zeros());
     let number = outcome.answer.number;
+    // By its number: an answer of the library has one, and is no result.
     if number != 0 {
         reset_refusals::lines(rt, number, rows)?;
         return Err(Stop::Ended(End::Answered(number)));

@@ -7,7 +7,7 @@ use chip::pages::Page;
 use latch::locks::{level_of, voted_byte};
 use std::fmt;
 
-// What a reset latches of a low lock row.
+// What a reset latches of a low lock row. A key of 0 is none, as the row and the state have it.
 #[derive(Clone, Copy)]
 struct Low {
     writekey: u32,

@@ -24,7 +24,8 @@ impl fmt::Display for Shown<'_> {
     }
 }
 
-// "otp: 'card.txt': line 3: '0x0c0': ", of the line that begins at `start` and its n-th word, counted from 0.
+// "otp: 'card.txt': line 3: '0x0c0': ", of the line that begins at `start` and its n-th word, counted from 0. The crate that
+// reads texts is not known here: so these come by themselves.
 pub fn at(
     rt: &HostRuntime,
     place: usize,

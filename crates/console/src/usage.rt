@@ -138,7 +138,7 @@ fn stray_way(words: Words) -> Option<usize> {
     }
 }
 
-// Whether the words are those of the command. Where they are not, one line says so.
+// Ends the command where the words are not its own: one line says so.
 fn fit(rt: &HostRuntime, words: Words, odd: Result<(), Odd>, takes: Takes) -> Result<(), Stop>
     ensures judged { spec.Judged takes words result }
     ensures stop { IfErr result (StopsWith End.Usage) }

@@ -18,10 +18,9 @@ const ROOM: usize = 7 + 6 * (MOST_ENTRIES as usize + 1);
 fn refuse(rt: &HostRuntime, place: usize, text: &[u8], fault: Fault) -> Result<End, Stop> {
     let found = Found::from(fault);
     let mut job = [0u8; ROOM];
-    let reading = match read(text, &mut job, found.entry.saturating_add(1)) {
-        Ok(reading) => reading,
-        Err(wrong) => wrong.reading,
-    };
+    let reading = read(text, &mut job, found.entry.saturating_add(1)).unwrap_or_else(
+        |wrong| wrong.reading,
+    );
     line(rt, place, text, reading, found.word, found.why)
 }
 
@@ -34,6 +33,7 @@ fn of_text(rt: &HostRuntime, from: usize, to: usize, text: &[u8]) -> Result<End,
     };
     let count = reading.count;
     put_head(&mut bytes, reading.version, count);
+    // The first bytes of the room: nothing is allocated.
     let job = part(&bytes, 0, 7 + 6 * (count as usize));
     if let Err(fault) = fault_of(job) {
         return refuse(rt, from, text, fault);

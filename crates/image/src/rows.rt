@@ -21,7 +21,7 @@ fn row_of(bytes: &[u8], row: usize) -> u32
     u32::from_le_bytes([byte(0), byte(1), byte(2), byte(3)])
 }
 
-// The rows of an image, from its bytes.
+// The rows of an image, from its bytes. Neither this nor `bytes_of` is a `From`: both types are the language's own.
 pub fn rows_of(bytes: &[u8]) -> [u32; 4096]
     ensures { result ≡ spec.rows_of bytes.now }
 {

@@ -8,7 +8,7 @@ use console::takes::{Role, Takes};
 use console::usage::{asked, needed};
 use console::word;
 
-// Whether an image is one that a reset takes. Its name, "A  rehearsed.img", says which of the two it is where it is not, and the lines of the
+// Ends the command where an image is none that a reset takes. Its name, "A  rehearsed.img", says which of the two it is where it is not, and the lines of the
 // reset why.
 fn taken(rt: &HostRuntime, name: &str, place: usize, rows: &[u32; 4096]) -> Result<(), Stop> {
     print!(rt; "{name:<3}")?;

@@ -33,6 +33,7 @@ fn line(rt: &HostRuntime, rights: Rights, row: u32, bits: u32) -> io::Result<()>
 // A line for each row of the range; where only those that hold bits are asked for, a blank one has none. How many hold bits.
 fn lines(rt: &HostRuntime, rows: &[u32], state: State, range: Range) -> io::Result<u32> {
     let mut held = 0u32;
+    // By its number, which is shown; `row_at` says what stands past the end too.
     for row in range.first..range.past {
         let bits = row_at(rows, row);
         if bits != 0 || !range.held {
@@ -43,7 +44,7 @@ fn lines(rt: &HostRuntime, rows: &[u32], state: State, range: Range) -> io::Resu
     Ok(held)
 }
 
-// The last line is "2 of 64 rows hold bits".
+// The last line is "2 of 64 rows hold bits". What goes in goes to one function more: a struct of it is no plainer.
 pub(crate) fn show(rt: &HostRuntime, rows: &[u32], state: State, range: Range) -> io::Result<()> {
     println!(rt;
         "{:<7}{:<10}{:<24}{:<12}{}",

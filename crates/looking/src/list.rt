@@ -4,6 +4,7 @@ use board::lock_rows;
 use chip::pages::Page;
 use console::ended::{End, Stop};
 use console::files::load_job;
+use console::saving::Entries;
 use console::takes::{Role, Takes};
 use console::usage::{asked, needed};
 use form::entries::{Entry, count_of, version_of};
@@ -19,6 +20,7 @@ use wording::job_refusals;
 // level 0": what is locked where the row was blank.
 fn entry_line(rt: &HostRuntime, entry: Entry) -> io::Result<()> {
     let Entry { row, kind, value } = entry;
+    // By its number: that is what stands in a job's bytes.
     if kind == 0 {
         let value = (value % 65536) as u16;
         print!(rt;
@@ -60,10 +62,7 @@ fn text(rt: &HostRuntime, job: &[u8]) -> io::Result<()> {
         println!(rt; "version 2")?;
     }
     lines(rt, job)?;
-    match count_of(job) {
-        1 => println!(rt; "# 1 entry"),
-        count => println!(rt; "# {count} entries"),
-    }
+    println!(rt; "# {}", Entries(count_of(job)))
 }
 
 pub fn run(rt: &HostRuntime) -> Result<End, Stop> {

@@ -10,7 +10,7 @@ use std::io;
 use wording::counts::{Count, Kind};
 use wording::{condition, refusals};
 
-// What a read says of its row. One that is flag worn and repaired counts as flag worn. After a reset the only refusals besides 8 are 5, 6 and 7.
+// What a read says of its row. It is no `From`: neither type is of this crate. One that is flag worn and repaired counts as flag worn. After a reset the only refusals besides 8 are 5, 6 and 7.
 fn kind_of(answer: Answer) -> Kind {
     match (answer.number, answer.condition) {
         (0, Condition::Clean) => Kind::Clean,
@@ -41,6 +41,7 @@ fn line(rt: &HostRuntime, row: u32, bits: u32, answer: Answer) -> io::Result<()>
 
 fn lines(rt: &HostRuntime, rows: &[u32], state: State, range: Range) -> io::Result<Count> {
     let mut count = Count::default();
+    // By its number, which is shown; `row_at` says what stands past the end too.
     for row in range.first..range.past {
         let bits = row_at(rows, row);
         if bits != 0 || !range.held {

@@ -23,6 +23,7 @@ pub(crate) struct Found {
     pub rows: u32,
 }
 
+// The two rows, and below the two images, go side by side, as `make_job` and the definitions take them.
 fn stands(why: Why, row: u32, present: u32, wanted: u32) -> bool
     ensures { result ≡ spec.such why row present wanted }
 {
@@ -64,6 +65,7 @@ pub(crate) fn find(why: Why, present: &[u32], wanted: &[u32]) -> Found
     ensures first { spec.First why present.now wanted.now result }
 {
     let mut found = Found { row: 0, rows: 0 };
+    // By its number, as the definition goes down to it.
     for row in 0..4096 {
         let holds = stands(why, row, row_at(present, row), row_at(wanted, row));
         found = with_row(found, row, holds);
@@ -76,6 +78,7 @@ pub(crate) fn bits_to_burn(present: &[u32], wanted: &[u32]) -> u32
     ensures { result ≡ spec.bits_below present.now wanted.now 4096 }
 {
     let mut bits: u32 = 0;
+    // By its number, as the definition goes down to it.
     for row in 0..4096 {
         bits += pulses(row_at(present, row), row_at(wanted, row));
     }

@@ -38,10 +38,12 @@ fn of_images(
 ) -> Result<End, Stop> {
     let mut bytes = [0u8; ROOM];
     let answer = make_job(present, wanted, &mut bytes);
+    // By its number: an answer of the library has one, and is no result.
     if answer.number != 0 {
         against::lines(rt, answer.number, present, wanted)?;
         return Ok(End::Answered(answer.number));
     }
+    // The first bytes of the room: nothing is allocated.
     let job = part(&bytes, 0, answer.value as usize);
     save_bytes(rt, place, job)?;
     last_line(rt, count_of(job), bits_to_burn(present, wanted), place)?;

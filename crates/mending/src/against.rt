@@ -54,10 +54,7 @@ fn text_line(rt: &HostRuntime, words: Words, text: &[u8], place: usize) -> io::R
         return Ok(());
     }
     let mut kept = [0u32; 1];
-    let reading = match read(text, &mut kept, place as u32 + 1) {
-        Ok(reading) => reading,
-        Err(wrong) => wrong.reading,
-    };
+    let reading = read(text, &mut kept, place as u32 + 1).unwrap_or_else(|wrong| wrong.reading);
     print!(rt; "   it is line {} of ", reading.line)?;
     word::print(rt, from)?;
     println!(rt; "")

@@ -19,7 +19,7 @@ pub(crate) fn found_by(entry: u32) -> Found
     }
 }
 
-// The kind of row that it counts as.
+// The kind of row that it counts as. It is no `From`, as above.
 pub(crate) fn kind_of(found: Found) -> Kind {
     match found {
         Found::Clean => Kind::Clean,

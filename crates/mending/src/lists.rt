@@ -21,15 +21,18 @@ pub(crate) fn put_range(list: &mut [u32], from: u32, past: u32)
     ensures { list.new ≡ spec.with_range list.old from (past - from) }
 {
     let count = past - from;
+    // By its place: of a slice that is lent item by item a proof knows the length alone.
     for i in 0..count {
         put(list, i, from + i);
     }
 }
 
-// The place of the first row that has a list refused with 11, found by the test of the pass itself.
+// The place of the first row that has a list refused with 11, found by the test of the pass itself. 0 where there is none, of which `FirstOut` says
+// nothing.
 pub(crate) fn first_out(list: &[u32]) -> usize
     ensures { spec.FirstOut list.now result }
 {
+    // By its place, which is what is looked for.
     for place in 0..list.len() {
         if out_of_order(first(list, place + 1)) {
             return place;

@@ -7,7 +7,8 @@ use console::options::Words;
 use console::saving::{save_asked, saved_line};
 use repair::pass::repair;
 
-// The rows of the image and its state, the list of the rows to repair, and the text that the list is from, if it is from one.
+// The rows of the image and its state, the list of the rows to repair, and the text that the list is from, which is
+// empty and not read where it is from none.
 #[derive(Clone, Copy)]
 pub(crate) struct Pass<'a> {
     pub before: &'a [u32],
@@ -27,6 +28,7 @@ impl Pass<'_> {
         let mut report = [0u32; 4096];
         let outcome = repair(&mut after, self.state, self.list, &mut report);
         let number = outcome.answer.number;
+        // By its number: an answer of the library has one, and is no result.
         if number != 0 {
             against::lines(rt, words, self, number)?;
             return finish(rt, words, self.state, number);

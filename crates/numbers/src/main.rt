@@ -41,7 +41,7 @@ and state:
 fn main(rt: HostRuntime) -> std::io::Result<()> {
     print!(rt; "{LEGEND}")?;
     let mut input = [0u8; 131072];
-    // Kept: with std's read the buffer is filled by a loop of our own, which is no plainer.
+    // With std's read the buffer would be filled by a loop of our own, which is no plainer.
     let count = read_full(STANDARD_INPUT, &mut input);
     let mut board = Board::blank(Table::new(&rt));
     board.play(&input[..count])?;

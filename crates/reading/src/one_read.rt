@@ -92,7 +92,7 @@ impl Read<'_> {
         owner::lines(rt, rights_of(state, about), about)
     }
 
-    // What a row answers by itself. 5 is for ECC and votes alone.
+    // The number that a row answers by itself, as an answer has it. 5 is for ECC and votes alone.
     fn number_alone(&self, row: u32, number: u32) -> u32 {
         let way = if number == 5 { Way::Ecc } else { Way::Raw };
         way.read(self.rows, self.state, self.caller, row).number

@@ -58,7 +58,7 @@ fn uses_of(state: State, page: Page) -> Uses {
     }
 }
 
-// A key index, or a dash where none is registered.
+// A key index, or a dash where none is registered, which is 0 in the state.
 #[derive(Clone, Copy, Debug, PartialEq, Eq)]
 struct Index(u32);
 

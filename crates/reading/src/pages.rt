@@ -114,6 +114,7 @@ fn key_line(rt: &HostRuntime, state: State, key: Key, at: u32) -> io::Result<()>
 }
 
 fn key_lines(rt: &HostRuntime, state: State) -> io::Result<()> {
+    // By its place, which is its number.
     for at in 0..6 {
         let key = state.keys[at];
         if key.valid {

@@ -26,6 +26,7 @@ fn way_asked(rt: &HostRuntime, words: Words) -> Result<Way, Stop> {
 
 // The caller that a word names.
 fn caller_named(rt: &HostRuntime, place: usize) -> Result<u32, Stop> {
+    // A word is asked for by its place, and may hold any bytes: a table of three is no plainer.
     if word::is(rt, place, b"secure") {
         return Ok(SECURE);
     }

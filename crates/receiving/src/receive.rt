@@ -79,6 +79,7 @@ fn ended(
     room: &[u8; ROOM],
     note: Note,
 ) -> Result<End, Stop> {
+    // The area and the job are the first bytes of the room: nothing is allocated.
     let mut after = *before;
     let outcome = end_job(&mut after, state, part(room, 0, AREA), note);
     let trial = Trial {

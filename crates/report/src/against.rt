@@ -1,6 +1,5 @@
 // What stands against the entry that a job is refused for.
 use crate::answered::Trial;
-use answer::answers::Answer;
 use chip::callers::SECURE;
 use chip::slices::row_at;
 use form::entries::entry_at;
@@ -11,7 +10,8 @@ use wording::{job_refusals, levels};
 
 // The lines of a refused job: of one that may not be written the levels of its page, and of one that fits in neither polarity the bits that
 // the row holds already, and the two rows that would hold the value.
-pub(crate) fn lines(rt: &HostRuntime, trial: &Trial<'_>, answer: Answer) -> io::Result<()> {
+pub(crate) fn lines(rt: &HostRuntime, trial: &Trial<'_>) -> io::Result<()> {
+    let answer = trial.outcome.answer;
     job_refusals::headline(rt, trial.job, answer.number, answer.place)?;
     let entry = entry_at(trial.job, answer.place);
     if answer.number == 7 {

@@ -3,7 +3,6 @@ ghost use Rattle.std.specs.Prelude.{◌≡◌, IfOk};
 
 use crate::locks::Parts;
 use crate::{against, changes, locks};
-use answer::answers::Answer;
 use board::begin::finish;
 use chip::state::{Outcome, State};
 use console::ended::{End, Stop};
@@ -45,21 +44,22 @@ impl Trial<'_> {
         ensures { IfOk result (λ end. end ≡ End.Answered self.now.outcome.answer.number) }
     {
         let answer = self.outcome.answer;
+        // By its number: an answer of the library has one, and is no result.
         if answer.number != 0 {
-            against::lines(rt, self, answer)?;
+            against::lines(rt, self)?;
             return finish(rt, words, self.state, answer.number);
         }
         save_asked(rt, words, self.after)?;
-        self.changed(rt, answer)?;
+        self.changed(rt)?;
         let left = self.outcome.state;
         burnt::gain_lines(rt, self.state.tallies, left.tallies)?;
-        self.summary(rt, answer)?;
+        self.summary(rt)?;
         saved_line(rt, words)?;
         finish(rt, words, self.state, 0)
     }
 
-    fn changed(&self, rt: &HostRuntime, answer: Answer) -> io::Result<()> {
-        self.headline(rt, answer)?;
+    fn changed(&self, rt: &HostRuntime) -> io::Result<()> {
+        self.headline(rt)?;
         if count_of(self.job) == 0 {
             println!(rt; "\nno row changes\n")?;
         } else {
@@ -67,19 +67,20 @@ impl Trial<'_> {
             changes::lines(rt, self)?;
             println!(rt; "")?;
         }
-        locks::show(rt, self, answer)
+        locks::show(rt, self)
     }
 
-    fn standing(&self, answer: Answer) -> Standing {
+    fn standing(&self) -> Standing {
         Standing {
-            place: answer.place,
+            place: self.outcome.answer.place,
             count: count_of(self.job),
         }
     }
 
     // The first line decides what a person does next, so it says where the limit cut the job.
-    fn headline(&self, rt: &HostRuntime, answer: Answer) -> io::Result<()> {
-        let standing = self.standing(answer);
+    fn headline(&self, rt: &HostRuntime) -> io::Result<()> {
+        let answer = self.outcome.answer;
+        let standing = self.standing();
         if standing.place == standing.count {
             return println!(rt; "{}", refusals::Numbered(0));
         }
@@ -93,9 +94,9 @@ impl Trial<'_> {
     }
 
     // "2 of 3 entries stand, 8 pulses, limit 8"
-    fn summary(&self, rt: &HostRuntime, answer: Answer) -> io::Result<()> {
-        let standing = self.standing(answer);
-        let pulses = Counted(answer.pulses, "pulse");
+    fn summary(&self, rt: &HostRuntime) -> io::Result<()> {
+        let standing = self.standing();
+        let pulses = Counted(self.outcome.answer.pulses, "pulse");
         match self.limit {
             Some(limit) => println!(rt; "{standing}, {pulses}, limit {limit}"),
             None => println!(rt; "{standing}, {pulses}, no limit"),

@@ -30,6 +30,7 @@ impl fmt::Display for Change {
             Bits(old),
             Bits(new)
         )?;
+        // By its number: that is what stands in a job's bytes.
         if entry.kind == 0 {
             write!(f, "ECC   {}", Value(entry.value))?;
             if read_row(must).polarity == Polarity::Inverted {

@@ -83,7 +83,8 @@ fn cut(rt: &HostRuntime, parts: Parts, answer: Answer, whole: bool) -> io::Resul
 }
 
 // A job without lock rows has nothing of this on its screen.
-pub(crate) fn show(rt: &HostRuntime, trial: &Trial<'_>, answer: Answer) -> io::Result<()> {
+pub(crate) fn show(rt: &HostRuntime, trial: &Trial<'_>) -> io::Result<()> {
+    let answer = trial.outcome.answer;
     let parts = Parts::of(trial.before, trial.job);
     let count = count_of(trial.job);
     if count <= parts.entries {

@@ -14,7 +14,8 @@ pub struct Tally {
 // No run comes near this count.
 const MOST: u32 = 1000000;
 
-// The sum of two counts. Where one is past what a run can reach, it stops there and can't wrap.
+// The sum of two counts. Where one is past what a run can reach, it stops there and can't wrap: so the definition has it, and `saturating_add` does
+// not stop there.
 fn sum(count: u32, more: u32) -> u32
     ensures { result ≡ spec.sum count more }
 {

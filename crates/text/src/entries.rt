@@ -93,6 +93,7 @@ fn with_value(line: &[u8], row: u32, kind: u32) -> Result<Option<Entry>, WrongWo
 fn with_kind(line: &[u8], row: u32) -> Result<Option<Entry>, WrongWord>
     ensures { entry_said result ≡ spec.with_kind line.now row }
 {
+    // There are two, and a word is bytes that need not be UTF-8: a `match` is no plainer.
     if is(line, 1, b"ecc") {
         return with_value(line, row, 0);
     }

@@ -19,6 +19,7 @@ pub enum Said {
 fn named(line: &[u8]) -> Result<Option<Said>, WrongWord>
     ensures { line_said result ≡ spec.version_named line.now }
 {
+    // As for a kind: a `match` is no plainer.
     if is(line, 1, b"1") {
         return Ok(Some(Said::Version(1)));
     }

@@ -1,4 +1,4 @@
-// The callers by their names (document 01, "What the library models"; request 2026-05).
+// The callers by their names (document 01, "What the library models"; request 2026-05). A caller is a number in every call, since C may bring any.
 use chip::callers::{BOOTLOADER, NONSECURE, SECURE};
 use std::fmt;
 

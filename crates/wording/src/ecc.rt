@@ -17,6 +17,7 @@ impl fmt::Display for Column {
             return write!(f, "{:<24}", "no ECC");
         }
         let answer = read_row(bits);
+        // By its number: an answer of the library has one, and is no result.
         if answer.number != 0 {
             return write!(f, "{:<24}", "no value");
         }

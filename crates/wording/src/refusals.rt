@@ -1,4 +1,4 @@
-// The answers as number and words.
+// The answers as number and words: by its number, as a call answers it, C too.
 use screen::shown::Row;
 use std::{fmt, io};
 

@@ -42,6 +42,7 @@ fn code_line(table: &mut Table, sample: Sample) -> io::Result<()> {
     table.verdict_of_many(right, 5)
 }
 
+// The titles, and a line for each sample, here and in the files like it: by one function with a closure it would be no plainer.
 pub fn run(table: &mut Table) -> io::Result<()> {
     headings(
         table,

@@ -62,6 +62,7 @@ fn damage_line(table: &mut Table, sample: Sample) -> io::Result<()> {
     table.verdict_of_many(upright + flag_worn + both + turned + flag_refused, 92)
 }
 
+// As in the file of the codes.
 pub fn run(table: &mut Table) -> io::Result<()> {
     headings(
         table,

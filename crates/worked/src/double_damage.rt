@@ -47,6 +47,7 @@ fn pairs_line(table: &mut Table, sample: Sample) -> io::Result<()> {
     table.verdict_of_many(of_plain + of_inverted, 462)
 }
 
+// As in the file of the codes.
 pub fn run(table: &mut Table) -> io::Result<()> {
     headings(
         table,

@@ -29,6 +29,7 @@ fn single_bits_line(table: &mut Table, sample: Sample) -> io::Result<()> {
     table.verdict_of_many(right, 24)
 }
 
+// As in the file of the codes.
 pub fn run(table: &mut Table) -> io::Result<()> {
     headings(
         table,

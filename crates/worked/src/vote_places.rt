@@ -23,6 +23,7 @@ impl Ballot {
         requires { turn < 24 }
     {
         let mut rows = [FULL; 8];
+        // By its number: which rows have the bit goes by it.
         for row in 0..self.count {
             let has = (row + turn as usize) % self.count < held as usize;
             rows[row] = if has { bit } else { 0 };

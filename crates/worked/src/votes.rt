@@ -116,7 +116,7 @@ const THRESHOLDS: [(&str, u32, u32); 2] = [
 
 fn vote_lines(table: &mut Table, votes: &[Vote]) -> io::Result<()> {
     for &(what, rows, count, least, must) in votes {
-        // There are no rows past the eighth.
+        // The library takes rows, and no count: there are none past the eighth, and so a larger count counts as 8.
         let is = vote(&rows[..count.min(8)], least);
         print!(table.rt; "{what:<50}{}  {}   ", Bits(must), Bits(is))?;
         table.verdict(is == must)?;
