@@ -1,5 +1,5 @@
 -- Reading a vote (document 01, "Votes").
-use Rattle.std.specs.Prelude.{ℕ, zero, suc, ◌+◌, not, ◌||◌, List, [], ◌∷◌, ◌++◌, eqb, ltb, take, drop}
+use Rattle.std.specs.Prelude.{ℕ, zero, suc, ◌+◌, ◌-◌, not, ◌||◌, List, [], ◌∷◌, ◌++◌, eqb, ltb, take, drop, replicate}
 use Rattle.answer.specs.Answers.{told, answered}
 use Rattle.answer.specs.Rungs.{Rung, ◌when◌, first_of}
 use Rattle.answer.specs.declared.answers.Answer.{Answer}
@@ -27,6 +27,10 @@ read_vote_number rows state caller row count =
 -- the rows of a group
 abbrev pub group : List ℕ → ℕ → ℕ → List ℕ
 group rows row count = take count (drop row rows)
+
+-- eight rows, of which the first few are judged: those of a group, and zeros behind them
+abbrev pub gathered : List ℕ → ℕ → ℕ → List ℕ
+gathered rows row count = group rows row count ++ replicate (8 - count) 0
 
 unfoldable pub read_vote : List ℕ → State → ℕ → ℕ → ℕ → Answer
 read_vote rows state caller row count =

@@ -1,5 +1,5 @@
 // Reading a vote (document 01, "Votes").
-ghost use Rattle.std.specs.Prelude.{◌≡◌, ◌+◌, ◌≤◌};
+ghost use Rattle.std.specs.Prelude.{◌≡◌, ◌+◌, ◌≤◌, length};
 ghost use Rattle.answer.specs.Refusals.{number_of};
 ghost use Rattle.answer.specs.Rungs.{first_of};
 ghost use Rattle.access.specs.Votes as spec;
@@ -11,7 +11,7 @@ use chip::callers::LAST_CALLER;
 use chip::pages::Page;
 use chip::state::State;
 use permit::permission::may_read;
-use vote::voting::{threshold, vote};
+use vote::voting::{Gathered, threshold, vote};
 
 // Whether one of `count` rows, taken upward, is refused: the first that is answers for all.
 #[tactic(auto, using(crate::proofs::Upward::upward_next, crate::proofs::Upward::upward_stops, crate::proofs::Upward::upward_end))]
@@ -47,6 +47,18 @@ fn check_vote(rows: &[u32], state: State, caller: u32, row: u32, count: u32) -> 
     check_group(rows, state, caller, row, count)
 }
 
+// The rows of a group, gathered, with zeros behind them.
+fn gathered(rows: &[u32], row: u32, count: u32) -> Gathered
+    requires { (row + count ≤ length rows.now) × (count ≤ 8) }
+    ensures { result ≡ spec.gathered rows.now row count }
+{
+    let first = row as usize;
+    let n = count as usize;
+    let mut group = [0; 8];
+    group[..n].copy_from_slice(&rows[first..first + n]);
+    group
+}
+
 // Reads the vote of three or eight rows. All are taken before any bit is judged.
 #[tactic(auto, using(answer::proofs::Numbered::not_done, crate::proofs::Passing::vote_passed), unfolding(crate::specs::Votes::read_vote))]
 pub fn read_vote(rows: &[u32], state: State, caller: u32, row: u32, count: u32) -> Answer
@@ -55,7 +67,6 @@ pub fn read_vote(rows: &[u32], state: State, caller: u32, row: u32, count: u32) 
     if let Err(refusal) = check_vote(rows, state, caller, row, count) {
         return refusal.into();
     }
-    let first = row as usize;
-    let group = &rows[first..first + count as usize];
-    told(vote(group, threshold(count)))
+    let group = gathered(rows, row, count);
+    told(vote(group, count, threshold(count)))
 }

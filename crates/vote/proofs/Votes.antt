@@ -1,35 +1,44 @@
 -- Counting who has a bit, row by row, and the vote as a number made of its bits.
 -- Assumes nothing.
-use mathlib.Core.Path.{◌≡◌, refl, sym, ap, ap₂, ◌∙◌}
+use mathlib.Core.Path.{◌≡◌, sym, ap, ap₂, ◌∙◌}
 use mathlib.Core.Bool.{Bool, true, false}
 use mathlib.Core.Logic.{◌⊎◌, inl, inr}
-use mathlib.Core.List.{List, ◌∷◌}
-use Prim.Native.Nat.{ℕ, zero, suc, ◌+◌, ◌*◌, ◌/◌, ◌%◌, ◌^◌, ◌≤◌, ◌<◌, suc-le-suc}
-use native.Mathlib.Nat.{add_comm, add-zero, zero-add, zero-mul, one-mul, mul_comm, pow-suc, mod-one, mod-eq_of_lt, le_refl, le_of_lt, le_of_suc-le-suc, not-suc-le-zero, eq-or-lt_of_le}
+use mathlib.Core.List.{List, [], ◌∷◌}
+use Prim.Native.Nat.{ℕ, zero, suc, ◌+◌, ◌*◌, ◌%◌, ◌^◌, ◌≤◌, ◌<◌, suc-le-suc}
+use native.Mathlib.Nat.{add_assoc, add_comm, add-zero, zero-add, zero-div, zero-mul, one-mul, mul_comm, pow-suc, mod-one, mod-eq_of_lt, le_refl, le_of_lt, le_of_suc-le-suc, not-suc-le-zero, eq-or-lt_of_le}
 use native.Mathlib.Numerals.{add-one, one-add}
 use borrow.Author.Tests.{le-leb, lt-leb}
 use lib.Arith.{digits_lt}
 use lib.Dec.{leb, lit<}
+use lib.ListN.{length, get_or, take}
 use lib.Pow.{high, low, mod-pow-add}
-use Rattle.std.specs.Prelude.{if◌then◌else◌, cond, count_by, nat_eq}
-use Rattle.std.proofs.lemmas.List.Recursion.{is_count_by}
+use lib.Seq.{take-nil, take_all, length-take-le, get_or-take}
+use Rattle.std.specs.Prelude.{if◌then◌else◌}
 use Rattle.row.specs.Code.{bit_at}
-use Rattle.row.proofs.Digits.{zero_or_one}
-use Rattle.row.proofs.Places.{bit_lt, bit_low}
+use Rattle.row.proofs.Places.{bit_low}
 use Rattle.vote.specs.Voting.{holders, voted_bit, voted_below}
 
--- the rows that have a bit are those whose digit at its place is 1
-pub holders_counted : (place : ℕ) (rows : List ℕ) → count_by (λ row. nat_eq (row / 2 ^ place % 2) 1) rows ≡ holders place rows
+-- one row more; past the last row there is nothing to count
+pub holders_more : (place : ℕ) (rows : List ℕ) (i : ℕ)
+    → holders place (take (suc i) rows) ≡ holders place (take i rows) + bit_at place (get_or rows i 0)
 unfolding holders
-holders_counted place rows = sym (is_count_by (holders place) (λ row. nat_eq (bit_at place row) 1) refl step rows)
-  where
-    digit : (n held : ℕ) → (n ≡ 0) ⊎ (n ≡ 1) → n + held ≡ cond (nat_eq n 1) (1 + held) held
-    digit n held (inl e) = rw e (zero-add held)
-    digit n held (inr e) = rw e refl
+holders_more place [] i =
+    sym (ap (λ (rows : List ℕ). holders place rows + bit_at place 0) (take-nil i) ∙ zero-add (bit_at place 0) ∙ ap (λ (n : ℕ). n % 2) (zero-div (2 ^ place)))
+holders_more place (row ∷ rows) zero = add_comm (bit_at place row) 0
+holders_more place (row ∷ rows) (suc i) =
+    ap (λ (n : ℕ). bit_at place row + n) (holders_more place rows i)
+    ∙ sym (add_assoc (bit_at place row) (holders place (take i rows)) (bit_at place (get_or rows i 0)))
 
-    step : (row : ℕ) (others : List ℕ)
-        → holders place (row ∷ others) ≡ cond (nat_eq (bit_at place row) 1) (1 + holders place others) (holders place others)
-    step row others = digit (bit_at place row) (holders place others) (zero_or_one (bit_at place row) (bit_lt place row))
+-- one row more of those that count
+pub holders_counted : (place : ℕ) (rows : List ℕ) (count i : ℕ) → i < count
+    → holders place (take i (take count rows)) + bit_at place (get_or rows i 0) ≡ holders place (take (suc i) (take count rows))
+holders_counted place rows count i h =
+    ap (λ (row : ℕ). holders place (take i (take count rows)) + bit_at place row) (sym (get_or-take count rows i 0 h))
+    ∙ sym (holders_more place (take count rows) i)
+
+-- from the last row that counts on, no other row does
+pub all_counted : (rows : List ℕ) (count i : ℕ) → count ≤ length rows → count ≤ i → take i (take count rows) ≡ take count rows
+all_counted rows count i within h = take_all i (take count rows) (rw (length-take-le count rows within) h)
 
 -- ---- the voted bits
 

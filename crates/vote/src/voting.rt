@@ -1,6 +1,9 @@
 // Votes over gathered rows (document 01, "Votes").
-ghost use Rattle.std.specs.Prelude.{◌≡◌, ◌<◌};
+ghost use Rattle.std.specs.Prelude.{◌≡◌, ◌<◌, ◌≤◌, take};
 ghost use Rattle.vote.specs.Voting as spec;
+
+// Eight gathered rows, of which the first few count.
+pub type Gathered = [u32; 8];
 
 // How many of `count` rows must have a bit: two of three, three of eight.
 pub fn threshold(count: u32) -> u32
@@ -9,21 +12,29 @@ pub fn threshold(count: u32) -> u32
     if count == 3 { 2 } else { 3 }
 }
 
-// How many rows have the bit at a place.
-fn holders(rows: &[u32], place: u32) -> usize
-    requires { place < 32 }
-    ensures { result ≡ spec.holders place rows.now }
+// How many of the first `count` rows have the bit at a place. All eight are gone over, and those past the count add nothing: a loop of one length
+// is compiled to better code.
+fn holders(rows: Gathered, count: usize, place: u32) -> u32
+    requires { (count ≤ 8) × (place < 32) }
+    ensures { result ≡ spec.holders place (take count rows) }
 {
-    rows.iter().filter(|row| (**row >> place) % 2 == 1).count()
+    let mut held = 0;
+    for i in 0..8 {
+        if i < count {
+            held += (rows[i] >> place) % 2;
+        }
+    }
+    held
 }
 
-// The vote of some rows: each of the 24 bits is judged by itself.
-pub fn vote(rows: &[u32], threshold: u32) -> u32
-    ensures { result ≡ spec.vote threshold rows.now }
+// The vote of the first `count` of eight gathered rows: each of the 24 bits is judged by itself.
+pub fn vote(rows: Gathered, count: u32, threshold: u32) -> u32
+    ensures { result ≡ spec.vote threshold (take count rows) }
 {
+    let counted = count.min(8) as usize;
     let mut voted = 0;
     for place in 0..24 {
-        if threshold as usize <= holders(rows, place) {
+        if threshold <= holders(rows, counted, place) {
             voted += 1 << place;
         }
     }
