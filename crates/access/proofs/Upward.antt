@@ -1,11 +1,14 @@
--- Rows taken upward, and judged one after the other.
+-- Rows taken upward: judging them one after the other, and gathering them.
 -- Assumes nothing.
-use mathlib.Core.Path.{◌≡◌, sym, ◌∙◌}
-use mathlib.Core.List.{List}
+use mathlib.Core.Path.{◌≡◌, sym, ap, ◌∙◌}
+use mathlib.Core.List.{List, [], ◌∷◌, ◌++◌}
 use Prim.Native.Nat.{ℕ, suc, ◌+◌, ◌-◌, ◌≤◌, ◌<◌}
+use native.Mathlib.Nat.{le_of_lt}
 use native.Mathlib.Numerals.{add-one}
 use native.Mathlib.Omega.{arith}
 use borrow.Author.Tests.{eq-eqb}
+use lib.ListN.{length, get_or, take, drop, set, replicate, length-drop}
+use lib.Seq.{take-suc, append_snoc, length-take-le, set_at, take_at, get_or-drop}
 use Rattle.permit.specs.Permission.{may_read}
 use Rattle.chip.specs.declared.state.State.{State}
 use Rattle.answer.specs.Rungs.{first_of, or_else}
@@ -14,7 +17,7 @@ use Rattle.answer.proofs.Numbered.{not_done}
 use Rattle.answer.specs.Refusals.{refusal_number}
 use Rattle.answer.specs.declared.refusals.Refusal.{Refusal}
 use Rattle.access.specs.Judging.{row_rungs}
-use Rattle.access.specs.Votes.{group_rungs}
+use Rattle.access.specs.Votes.{group_rungs, group, gathered}
 
 module _ (rows : List ℕ) (state : State) (caller at end : ℕ) where
   -- the next row's own rungs, and then those of the rows above it
@@ -42,3 +45,29 @@ unfolding group_rungs
 upward_end rows state caller at end e =
     let none : end - at ≡ 0 = omega arith in
     rw none
+
+-- one row more is gathered
+pub gather_next : (rows held : List ℕ) (row i : ℕ) → row + i < length rows → i < 8 → held ≡ gathered rows row i
+    → set held i (get_or rows (row + i) 0) ≡ gathered rows row (i + 1)
+gather_next rows held row i h l e =
+    let there : i < length (drop row rows) = rw (length-drop row rows) (omega arith) in
+    let room : 8 - i ≡ suc (8 - (i + 1)) = omega arith in
+    ap (λ (eight : List ℕ). set eight i next) (e ∙ ap (λ (zeros : ℕ). group rows row i ++ replicate zeros 0) room)
+    ∙ set_at (group rows row i) 0 behind next i (length-take-le i (drop row rows) (le_of_lt there))
+    ∙ sym (append_snoc (group rows row i) next behind)
+    ∙ ap (λ (front : List ℕ). front ++ behind) (sym (one_longer there))
+  where
+    next : ℕ
+    next = get_or rows (row + i) 0
+
+    behind : List ℕ
+    behind = replicate (8 - (i + 1)) 0
+
+    one_longer : i < length (drop row rows) → group rows row (i + 1) ≡ group rows row i ++ (next ∷ [])
+    one_longer there =
+        rw add-one (take-suc (drop row rows) i 0 there ∙ ap (λ (last : ℕ). group rows row i ++ (last ∷ [])) (get_or-drop row rows i 0))
+
+-- the first of them are those of the group
+pub first_gathered : (rows : List ℕ) (row count : ℕ) → row + count ≤ length rows → take count (gathered rows row count) ≡ group rows row count
+first_gathered rows row count h =
+    take_at (group rows row count) (replicate (8 - count) 0) count (length-take-le count (drop row rows) (rw (length-drop row rows) (omega arith)))

@@ -55,7 +55,9 @@ fn gathered(rows: &[u32], row: u32, count: u32) -> Gathered
     let first = row as usize;
     let n = count as usize;
     let mut group = [0; 8];
-    group[..n].copy_from_slice(&rows[first..first + n]);
+    for i in 0..n {
+        group[i] = rows[first + i];
+    }
     group
 }
 
