@@ -55,11 +55,13 @@ module _ (rows : List ℕ) where
       let six = passed (hidden state row) 5 _ five.1 in
       rw (same, one.0, caller-four.0, two.0, five.0, six.0, ok, le-ltb 16777215 (row_at left row) small)
 
-  pub vote_passed : (state : State) (caller row count : ℕ) → 0 ≡ read_vote_number rows state caller row count → row + count ≤ length rows
+  pub vote_passed : (state : State) (caller row count : ℕ) → 0 ≡ read_vote_number rows state caller row count
+      → (row + count ≤ length rows) × ((eqb count 3 || eqb count 8) ≡ true)
   vote_passed state caller row count e =
       let one = passed (not_whole rows) 0 _ (sym e) in
       let caller-four = passed (no_caller caller) 3 _ one.1 in
       let four = passed (not (eqb count 3 || eqb count 8)) 3 _ caller-four.1 in
+      let two = passed (ltb 4096 (row + count)) 1 _ four.1 in
       let long : length rows ≡ 4096 = whole one.0 in
-      let low : row + count ≤ 4096 = ltb-false 4096 (row + count) (passed (ltb 4096 (row + count)) 1 _ four.1).0 in
-      omega arith
+      let low : row + count ≤ 4096 = ltb-false 4096 (row + count) two.0 in
+      (omega arith, not-false (eqb count 3 || eqb count 8) four.0)
