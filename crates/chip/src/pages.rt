@@ -10,6 +10,9 @@ pub struct Page {
 }
 
 impl Page {
+    // Pages of a chip.
+    pub const COUNT: usize = 64;
+
     // The last page.
     pub const LAST: u32 = 63;
 

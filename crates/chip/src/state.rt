@@ -6,15 +6,15 @@ use crate::pages::Page;
 use answer::answers::{Answer, refused};
 
 // A level, a key index, a flag and a tally of each page; the words of a key.
-pub type Levels = [u8; 64];
+pub type Levels = [u8; Page::COUNT];
 
-pub type Indexes = [u8; 64];
+pub type Indexes = [u8; Page::COUNT];
 
-pub type Flags = [bool; 64];
+pub type Flags = [bool; Page::COUNT];
 
 pub type Words = [u16; 8];
 
-pub type Tallies = [u16; 64];
+pub type Tallies = [u16; Page::COUNT];
 
 // A key as reset latched it: its words, its valid flag, and whether all its rows decoded.
 #[repr(C)]
@@ -52,15 +52,15 @@ impl State {
             whole: false,
         };
         State {
-            secure: [0; 64],
-            nonsecure: [0; 64],
-            bootloader: [0; 64],
-            writekey: [0; 64],
-            readkey: [0; 64],
-            nokey: [false; 64],
+            secure: [0; Page::COUNT],
+            nonsecure: [0; Page::COUNT],
+            bootloader: [0; Page::COUNT],
+            writekey: [0; Page::COUNT],
+            readkey: [0; Page::COUNT],
+            nokey: [false; Page::COUNT],
             keys: [key; 6],
             entered: [0; 8],
-            tallies: [0; 64],
+            tallies: [0; Page::COUNT],
         }
     }
 }
