@@ -1,12 +1,14 @@
 -- Rows taken upward: judging them one after the other, and gathering them.
 -- Assumes nothing.
-use mathlib.Core.Path.{◌≡◌, sym, ap, ◌∙◌}
+use mathlib.Core.Path.{◌≡◌, refl, sym, ap, ◌∙◌}
+use mathlib.Core.Bool.{Bool, true, false, ◌||◌}
 use mathlib.Core.List.{List, [], ◌∷◌, ◌++◌}
 use Prim.Native.Nat.{ℕ, suc, ◌+◌, ◌-◌, ◌≤◌, ◌<◌}
 use native.Mathlib.Nat.{le_of_lt}
 use native.Mathlib.Numerals.{add-one}
 use native.Mathlib.Omega.{arith}
-use borrow.Author.Tests.{eq-eqb}
+use borrow.Author.Tests.{eq-eqb, eqb-true}
+use lib.Dec.{eqb}
 use lib.ListN.{length, get_or, take, drop, set, replicate, length-drop}
 use lib.Seq.{take-suc, append_snoc, length-take-le, set_at, take_at, get_or-drop}
 use Rattle.permit.specs.Permission.{may_read}
@@ -71,3 +73,11 @@ gather_next rows held row i h l e =
 pub first_gathered : (rows : List ℕ) (row count : ℕ) → row + count ≤ length rows → take count (gathered rows row count) ≡ group rows row count
 first_gathered rows row count h =
     take_at (group rows row count) (replicate (8 - count) 0) count (length-take-le count (drop row rows) (rw (length-drop row rows) (omega arith)))
+
+-- three or eight rows are at most eight
+pub count_low : (count : ℕ) → (eqb count 3 || eqb count 8) ≡ true → count ≤ 8
+count_low count e = go (eqb count 3) refl
+  where
+    go : (t : Bool) → eqb count 3 ≡ t → count ≤ 8
+    go true three = let c : count ≡ 3 = eqb-true count 3 three in omega arith
+    go false other = let c : count ≡ 8 = eqb-true count 8 (sym (ap (λ (t : Bool). t || eqb count 8) other) ∙ e) in omega arith

@@ -1,4 +1,5 @@
 pub mod Lists
+pub mod Orders
 pub mod PageBits
 pub mod Same
 pub mod Made

@@ -2,7 +2,7 @@
 -- Assumes nothing.
 use mathlib.Core.List.{List, [], ◌∷◌}
 use mathlib.Core.Path.{◌≡◌, sym, ap, ap₂, ◌∙◌}
-use Prim.Native.Nat.{ℕ, ◌+◌, ◌*◌, ◌/◌, ◌%◌, ◌^◌, ◌<◌}
+use Prim.Native.Nat.{ℕ, zero, suc, ◌+◌, ◌*◌, ◌/◌, ◌%◌, ◌^◌, ◌≤◌, ◌<◌, zero-le}
 use native.Mathlib.Nat.{mod-lt, mod-le, mod-eq_of_lt, lt_of_le_of_lt, add-zero, zero-add, zero-mul, mul-one, mul_assoc}
 use native.Mathlib.Omega.{arith}
 use lib.Bits.{bit_or, bit_xor, or_shifted_r, xor_block, xor_shr, xor_zero_l, xor_zero_r}
@@ -12,7 +12,7 @@ use lib.Dec.{T, eqb, ltb, eqb→eq, ltb→lt}
 use lib.ListN.{get_or}
 use lib.Pow.{split, pow_pos, field, mod-mod-pow, shr_lt}
 use Rattle.row.specs.Code.{set_bits, parity, masks, with_check, with_checks, code}
-use Rattle.row.proofs.Digits.{all_below, at_below}
+use Rattle.row.proofs.Digits.{all_below, at_below, NoneOf}
 use Rattle.row.proofs.Codes.{code_linear, code_data, code_lt}
 
 -- the check bits of some data
@@ -50,6 +50,14 @@ highs =
 pub at_high_key : {entry key : ℕ} → T (ltb key 32) → entry ≡ key → get_or highs key 0 ≡ checks (four entry * 256)
 unfolding highs code with_checks with_check masks parity set_bits ones_in
 at_high_key = at_key highs (λ entry. checks (four entry * 256)) tt
+
+-- no number below 32 is left for the default
+past : (n x : ℕ) → NoneOf (λ k. k) n x → n ≤ x
+past zero x none = zero-le
+past (suc n) x none = let below : n ≤ x = past n x none.0 in omega (arith, none.1)
+
+pub no_default : {entry value other : ℕ} → NoneOf (λ k. k) 32 entry → entry < 32 → value ≡ other
+no_default {entry} none below = let all : 32 ≤ entry = past 32 entry none in omega (arith, below)
 
 -- ---- the check bits of a value are the exclusive or of those of its parts
 
