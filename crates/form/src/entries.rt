@@ -12,7 +12,7 @@ pub struct Entry {
 }
 
 // What a job's bytes are read from, one by one: the bytes that it has, and where it may be read.
-pub trait ByteSource {
+trait ByteSource {
     ghost bytes: { Self → List ℕ };
 
     ghost end: { Self → ℕ };
@@ -65,7 +65,7 @@ pub fn byte_at(job: &[u8], at: usize) -> u32
 }
 
 // A number of 16 bits, low byte first.
-pub fn two_at<S: ByteSource>(source: &S, at: usize) -> u32
+fn two_at<S: ByteSource>(source: &S, at: usize) -> u32
     requires { (at + 2 ≤ S.end source.now) × (at < 2 ^ 40) }
     ensures value { result ≡ spec.two_at (S.bytes source.now) at }
     ensures upper_bound { result < 65536 }
@@ -82,7 +82,7 @@ fn three_at<S: ByteSource>(source: &S, at: usize) -> u32
 }
 
 // The entry whose bytes begin at a place.
-pub fn entry_from<S: ByteSource>(source: &S, at: usize) -> Entry
+fn entry_from<S: ByteSource>(source: &S, at: usize) -> Entry
     requires { (at + 6 ≤ S.end source.now) × (at < 2 ^ 39) }
     ensures { result ≡ spec.entry_from (S.bytes source.now) at }
 {

@@ -10,11 +10,12 @@ use borrow.Author.Tests.{ltb-true, ltb-false}
 use lib.Dec.{ltb}
 use lib.ListN.{length, length-take, take}
 use lib.Seq.{get_or-take}
-use Rattle.form.specs.Entries.{byte_at, version_of, count_of, entry_at}
+use Rattle.chip.proofs.Lists.{listed_at}
+use Rattle.form.specs.Entries.{byte_at, version_of, count_of, entry_from, entry_at}
 use Rattle.form.specs.Faults.{marked}
 use Rattle.form.proofs.Putting.{before_stays, after_stays, put_stands}
 use Rattle.form.proofs.ReadBack.{entry_alike, head_alike}
-use Rattle.lead.specs.Notes.{begun_before, Fits, over, so_far}
+use Rattle.lead.specs.Notes.{begun_before, Fits, over, so_far, part_byte, part_from}
 use Rattle.lead.specs.declared.notes.Note.{Note}
 use Rattle.lead.specs.declared.so_far.Begun.{Begun}
 use Rattle.lead.proofs.Counts.{before_fits}
@@ -75,3 +76,24 @@ module _ (area : List ℕ) (note : Note) (room : 3079 ≤ length area) (begun : 
 
   pub entry_of_area : (i : ℕ) → (i ≡ begun.index → ⊥) → entry_at (so_far area note) i ≡ entry_at area i
   entry_of_area i other = ap (λ (file : List ℕ). entry_at file i) (sym same_file) ∙ entry_else area begun begun_fits i other
+
+-- six bytes that are taken out of a file begin with the entry that they were
+pub entry_taken : (job : List ℕ) (i : ℕ) → entry_from (part_from job (7 + 6 * i) 6) 0 ≡ entry_at job i
+unfolding entry_at
+entry_taken job i =
+    let at = 7 + 6 * i in
+    let stands : (k : ℕ) → k < 8 → byte_at (part_from job at 6) k ≡ part_byte job at 6 k = λ k low. listed_at (part_byte job at 6) 8 k 0 low in
+    let first : at + 0 ≡ at = omega arith in
+    let fifth : at + 4 ≡ at + 3 + 1 = omega arith in
+    let last : at + 5 ≡ at + 3 + 2 = omega arith in
+    simp (
+      stands 0 (omega arith),
+      stands 1 (omega arith),
+      stands 2 (omega arith),
+      stands 3 (omega arith),
+      stands 4 (omega arith),
+      stands 5 (omega arith),
+      first,
+      fifth,
+      last,
+    )

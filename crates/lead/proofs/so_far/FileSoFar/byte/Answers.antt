@@ -1,8 +1,8 @@
 -- A file so far is read byte by byte: the bytes of the entry begun are those of the note, and all others the area's.
 use Rattle.std.proofs.Common.{◌+◌, ◌-◌, ◌*◌, sym, ◌∙◌, inl, inr, arith}
 use Rattle.lead.proofs.SoFar.{byte_of_note, byte_of_area}
-use Rattle.lead.proofs.so_far.FileSoFarByteSource.byte.Goals as goal
-use Rattle.lead.proofs.so_far.FileSoFarByteSource.byte.Goals.{then-at-first-via-then-at-first, then-at-first-via-else-at-first+then-first-self}
+use Rattle.lead.proofs.so_far.FileSoFar.byte.Goals as goal
+use Rattle.lead.proofs.so_far.FileSoFar.byte.Goals.{then-at-first-via-then-at-first, then-at-first-via-else-at-first+then-first-self}
 
 pub returns-then-at-first-clause-value : goal.returns-then-at-first-clause-value
 returns-then-at-first-clause-value c =
