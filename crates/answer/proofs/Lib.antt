@@ -1,3 +1,4 @@
 pub mod Choices
 pub mod Ladders
 pub mod Numbered
+pub mod Telling

@@ -1,2 +1,3 @@
 pub mod Syndromes
 pub mod Undecoded
+pub mod Telling

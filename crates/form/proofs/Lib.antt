@@ -5,3 +5,4 @@ pub mod Putting
 pub mod ReadBack
 pub mod Upward
 pub mod WholeJob
+pub mod Telling

@@ -1,2 +1,3 @@
 pub mod Fitting
 pub mod Upward
+pub mod Telling

@@ -5,3 +5,4 @@ pub mod Codes
 pub mod Checks
 pub mod Lowest
 pub mod Unfit
+pub mod Telling
