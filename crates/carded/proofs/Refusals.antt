@@ -31,10 +31,11 @@ use Rattle.splash.specs.Writing.{Written, ecc_entry, card_bytes, card_entries, w
 use Rattle.splash.specs.declared.cards.Card.{Card}
 use Rattle.splash.proofs.Leaving.{write_refused, write_done}
 use Rattle.splash.proofs.PageThree.{OfCard, line_in}
+use Rattle.splash.proofs.Telling.{card_read_tells}
 use Rattle.laws.specs.Calls.{an_ecc_read, perform}
 use Rattle.laws.specs.Numbers.{number_of}
 use Rattle.laws.proofs.Numbers.{given_exactly}
-use Rattle.carded.specs.Refusing.{CardGives, CardRefusalZero, SixNeverComes, SevenExactly, CardNoRoom, WriteGives, WriteRefusalKeeps, WriteLeaves, WriteNoRoom}
+use Rattle.carded.specs.Refusing.{CardGives, CardRefusalZero, SixNeverComes, SevenExactly, CardNoRoom, CardAnswerNoRoom, WriteGives, WriteRefusalKeeps, WriteLeaves, WriteNoRoom}
 use Rattle.carded.proofs.Saying.{given}
 
 pub card_gives : CardGives
@@ -52,6 +53,9 @@ card_refusal_zero rows state = go (eqb (first_of (card_rungs (read_as rows state
 
 pub card_no_room : CardNoRoom
 card_no_room rows state a b one other = one ∙ sym other
+
+pub card_answer_no_room : CardAnswerNoRoom
+card_answer_no_room rows state a b one other = card_read_tells a b (one ∙ sym other)
 
 -- ---- 6 and 7
 

@@ -1,16 +1,18 @@
 -- Request 2026-12: when the two calls on a card are refused, and demand 1 of them: reading answers a card or none, writing is lent no chip.
-use Rattle.std.specs.Prelude.{ℕ, ◌≤◌, false, List, ◌↔◌, ◌≡◌, length}
+use Rattle.std.specs.Prelude.{ℕ, ◌≤◌, false, List, Result, ◌↔◌, ◌≡◌, length}
 use Rattle.answer.specs.Rungs.{first_of}
 use Rattle.answer.specs.declared.answers.Answer.{Answer}
 use Rattle.answer.specs.declared.answers.Condition.TheVariants.{Clean}
 use Rattle.answer.specs.declared.answers.Polarity.TheVariants.{Plain}
+use Rattle.answer.specs.declared.refusals.Refusal.{Refusal}
 use Rattle.chip.specs.declared.state.State.{State}
 use Rattle.permit.specs.Permission.{may_read}
 use Rattle.form.specs.Entries.{byte_at}
 use Rattle.splash.specs.Cards.{card_of}
 use Rattle.splash.specs.Flat.{read_number, zero_card, shown_card}
-use Rattle.splash.specs.Reading.{CardRead, card_rungs, read_as, read_card}
+use Rattle.splash.specs.Reading.{CardRead, card_rungs, read_as, read_card, card_read}
 use Rattle.splash.specs.Writing.{Written, card_bytes, write_number, write_card}
+use Rattle.splash.specs.declared.cards.Card.{Card}
 
 -- a read's number is the first of its rungs that holds
 abbrev pub CardGives : Type 0
@@ -36,6 +38,14 @@ CardAllows rows state read = read ≡ read_card rows state
 
 abbrev pub CardNoRoom : Type 0
 CardNoRoom = (rows : List ℕ) (state : State) (a b : CardRead) → CardAllows rows state a → CardAllows rows state b → a ≡ b
+
+-- the same of what the code answers, which is a card or a refusal by its name
+abbrev pub CardAnswerAllows : List ℕ → State → Result Card Refusal → Type 0
+CardAnswerAllows rows state answer = card_read answer ≡ read_card rows state
+
+abbrev pub CardAnswerNoRoom : Type 0
+CardAnswerNoRoom =
+    (rows : List ℕ) (state : State) (a b : Result Card Refusal) → CardAnswerAllows rows state a → CardAnswerAllows rows state b → a ≡ b
 
 -- a writing's number is the first of its rungs that holds
 abbrev pub WriteGives : Type 0

@@ -1,3 +1,4 @@
 pub mod Answering
 pub mod Leaving
 pub mod PageThree
+pub mod Telling
