@@ -13,7 +13,7 @@ use Rattle.form.proofs.Putting.{then_bytes}
 
 module _ (area : List ℕ) (at : ℕ) (bytes : List ℕ) where
   -- one byte more
-  one_more : (i : ℕ) → i < length bytes → set (with_bytes area at (take i bytes)) (at + i) (get_or bytes i 0) ≡ with_bytes area at (take (suc i) bytes)
+  pub one_more : (i : ℕ) → i < length bytes → set (with_bytes area at (take i bytes)) (at + i) (get_or bytes i 0) ≡ with_bytes area at (take (suc i) bytes)
   unfolding with_bytes
   one_more i h =
       rw (take-suc bytes i 0 h, then_bytes area at (take i bytes) (get_or bytes i 0 ∷ []), length-take-le i bytes (omega arith))
@@ -33,7 +33,7 @@ module _ (area : List ℕ) (at : ℕ) (bytes : List ℕ) where
       ∙ ap (with_bytes area at) (take_all (length bytes) bytes (omega arith))
 
 -- as many bytes as a front has are that front
-front_again : (n : ℕ) (l : List ℕ) → take (length (take n l)) l ≡ take n l
+pub front_again : (n : ℕ) (l : List ℕ) → take (length (take n l)) l ≡ take n l
 front_again zero l = refl
 front_again (suc n) [] = refl
 front_again (suc n) (byte ∷ l) = ap (λ (front : List ℕ). byte ∷ front) (front_again n l)
