@@ -30,7 +30,10 @@ fn store(area: &mut [u8], start: u32, chunk: &[u8])
     let room = AREA_BYTES - start;
     let at = start as usize;
     let bytes = chunk.len().min(room as usize);
-    area[at..at + bytes].copy_from_slice(&chunk[..bytes]);
+    // Byte by byte: to copy a part at once takes both addresses as numbers of 64 bits, and the desk's cores have 32.
+    for i in 0..bytes {
+        area[at + i] = chunk[i];
+    }
 }
 
 // The note after a chunk whose bytes the area has.
