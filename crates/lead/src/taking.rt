@@ -28,11 +28,10 @@ fn store(area: &mut [u8], start: u32, chunk: &[u8])
         return;
     }
     let room = AREA_BYTES - start;
-    let at = start as usize;
-    let bytes = chunk.len().min(room as usize);
-    // Byte by byte: to copy a part at once takes both addresses as numbers of 64 bits, and the desk's cores have 32.
+    let bytes = chunk.len().min(room as usize) as u32;
+    // Byte by byte: to copy a part at once takes both addresses as numbers of 64 bits, and the desk's cores have 32. So it is counted by 32 too.
     for i in 0..bytes {
-        area[at + i] = chunk[i];
+        area[(start + i) as usize] = chunk[i as usize];
     }
 }
 
