@@ -37,9 +37,10 @@ pub(crate) fn all_compared(present: &[u32], wanted: &[u32]) -> Compared
     ensures { result ≡ spec.shown_below present.now wanted.now 4096 }
 {
     let mut shown = Compared::default();
-    // By its number, which a row is judged by: `zip` would count along besides.
-    for row in 0..Page::CHIP_ROWS {
-        shown = shown.with_row(row as u32, present[row], wanted[row]);
+    // By its number, which a row is judged by: `zip` would count along besides. Of 32 bits, as a core of the desk counts.
+    for row in 0..Page::CHIP_ROWS as u32 {
+        let at = row as usize;
+        shown = shown.with_row(row, present[at], wanted[at]);
     }
     shown
 }
