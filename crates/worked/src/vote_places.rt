@@ -5,28 +5,28 @@ ghost use Rattle.std.specs.Prelude.{◌≤◌, ◌<◌};
 use crate::places::places;
 use crate::table::{Share, Table, headings};
 use std::io;
-use vote::voting::vote;
+use vote::voting::{Gathered, vote};
 
 const FULL: u32 = 0xffffff;
 
 // A vote of so many rows, and how many of them must have a bit.
 #[derive(Clone, Copy)]
 struct Ballot {
-    count: usize,
+    count: u32,
     least: u32,
     ghost few: { count ≤ 8 },
 }
 
 impl Ballot {
     // `held` of the first rows have the bit. The rows past those of the vote are full: a vote that counted one of them would show it.
-    fn rows(self, turn: u32, held: u32, bit: u32) -> [u32; 8]
+    fn rows(self, turn: u32, held: u32, bit: u32) -> Gathered
         requires { turn < 24 }
     {
         let mut rows = [FULL; 8];
         // By its number: which rows have the bit goes by it.
         for row in 0..self.count {
-            let has = (row + turn as usize) % self.count < held as usize;
-            rows[row] = if has { bit } else { 0 };
+            let has = (row + turn) % self.count < held;
+            rows[row as usize] = if has { bit } else { 0 };
         }
         rows
     }
@@ -37,7 +37,7 @@ impl Ballot {
             let bit = 1 << place;
             let rows = self.rows(place, held, bit);
             let must = if self.least <= held { bit } else { 0 };
-            vote(&rows[..self.count], self.least) == must
+            vote(rows, self.count, self.least) == must
         })
     }
 

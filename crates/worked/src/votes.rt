@@ -3,16 +3,16 @@
 use crate::table::{Table, headings};
 use screen::shown::Bits;
 use std::io;
-use vote::voting::{threshold, vote};
+use vote::voting::{Gathered, threshold, vote};
 
 const FULL: u32 = 0xffffff;
 
-const LAST_THREE: [u32; 8] = [0, 0, 0, 0, 0, FULL, FULL, FULL];
+const LAST_THREE: Gathered = [0, 0, 0, 0, 0, FULL, FULL, FULL];
 
-const ALL: [u32; 8] = [FULL; 8];
+const ALL: Gathered = [FULL; 8];
 
 // What is special, the rows, how many of them count, how many must have a bit, and what must be voted.
-type Vote = (&'static str, [u32; 8], usize, u32, u32);
+type Vote = (&'static str, Gathered, u32, u32, u32);
 
 const OF_THREE: [Vote; 6] = [
     (
@@ -116,8 +116,7 @@ const THRESHOLDS: [(&str, u32, u32); 2] = [
 
 fn vote_lines(table: &mut Table, votes: &[Vote]) -> io::Result<()> {
     for &(what, rows, count, least, must) in votes {
-        // The library takes rows, and no count: there are none past the eighth, and so a larger count counts as 8.
-        let is = vote(&rows[..count.min(8)], least);
+        let is = vote(rows, count, least);
         print!(table.rt; "{what:<50}{}  {}   ", Bits(must), Bits(is))?;
         table.verdict(is == must)?;
     }
