@@ -10,6 +10,8 @@ use std::{fmt, io};
 pub struct Left(pub u32, pub u32, pub u32);
 
 impl Left {
+    // Of a write that is refused the library answers the refusal alone, and so only its number is compared here. What such a call leaves of a row that it
+    // is lent, and of the tallies, `numbers` compares.
     fn of(old: u32, written: Result<Burnt, Refusal>) -> Left {
         match written {
             Ok(burnt) => Left(0, burnt.row, burnt.pulses),
