@@ -35,13 +35,15 @@ impl Heard {
         }
     }
 
-    // With one byte more.
+    // With one byte more. Its answer's value is the number of its fault, so a fault is asked for only where there is one.
     fn take_byte(&mut self, rt: &HostRuntime, area: &mut [u8], byte: u8) -> io::Result<()> {
         let chunk = [byte];
         let before = self.note;
         let taken = take_chunk(area, before, &chunk);
         self.note = taken.note;
-        if let Err(fault) = early_fault(area, before, &chunk) {
+        if taken.answer.value != 0
+            && let Err(fault) = early_fault(area, before, &chunk)
+        {
             self.said = early::say(rt, area, before, fault, self.said)?;
         }
         Ok(())
