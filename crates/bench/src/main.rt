@@ -12,8 +12,8 @@ use making::make;
 use mending::mend;
 use reading::{pages, read};
 use receiving::receive;
+use screen::passing::passed_over;
 use std::env::Env;
-use std::io;
 
 // The page names no file.
 fn help(rt: &HostRuntime) -> Result<End, Stop> {
@@ -45,10 +45,10 @@ fn run(rt: &HostRuntime) -> Result<End, Stop> {
     }
 }
 
-// The last line says how the command ended.
-fn main(rt: HostRuntime) -> io::Result<()> {
-    match run(&rt) {
+// The last line says how the command ended. Where the screen took no more, there is none to say it.
+fn main(rt: HostRuntime) {
+    passed_over(match run(&rt) {
         Ok(end) | Err(Stop::Ended(end)) => println!(rt; "{end}"),
         Err(Stop::Screen(error)) => Err(error),
-    }
+    });
 }

@@ -2,7 +2,7 @@
 use form::entries::count_of;
 use form::faults::Fault;
 use lead::notes::Note;
-use std::io;
+use screen::passing::passed_over;
 use wording::job_refusals;
 
 // So many faults are said, and no more: one byte that is lost on the way can spoil every entry behind it.
@@ -18,21 +18,16 @@ fn known(area: &[u8], before: Note, fault: Fault, said: u32) -> bool {
     }
 }
 
-// Says a fault, where so many were said before it. How many were then, with the line that no more are said.
-pub(crate) fn say(
-    rt: &HostRuntime,
-    area: &[u8],
-    before: Note,
-    fault: Fault,
-    said: u32,
-) -> io::Result<u32> {
+// Says a fault, where so many were said before it. How many were then, with the line that no more are said. One that cannot be written counts too:
+// the job goes on coming, whether it is heard or not.
+pub(crate) fn say(rt: &HostRuntime, area: &[u8], before: Note, fault: Fault, said: u32) -> u32 {
     if MOST_SAID < said || known(area, before, fault, said) {
-        return Ok(said);
+        return said;
     }
-    if said < MOST_SAID {
-        job_refusals::early(rt, area, fault)?;
+    passed_over(if said < MOST_SAID {
+        job_refusals::early(rt, area, fault)
     } else {
-        println!(rt; "early: further faults are not said")?;
-    }
-    Ok(said + 1)
+        println!(rt; "early: further faults are not said")
+    });
+    said + 1
 }

@@ -12,7 +12,6 @@ use lead::ending::end_job;
 use lead::notes::{AREA_BYTES, Note};
 use lead::taking::take_chunk;
 use report::answered::Trial;
-use std::io;
 use typed::words::part;
 
 // The area that is lent, and room for a byte more, so that a job that is too long can be shown as one.
@@ -36,7 +35,7 @@ impl Heard {
     }
 
     // With one byte more. Its answer's value is the number of its fault, so a fault is asked for only where there is one.
-    fn take_byte(&mut self, rt: &HostRuntime, area: &mut [u8], byte: u8) -> io::Result<()> {
+    fn take_byte(&mut self, rt: &HostRuntime, area: &mut [u8], byte: u8) {
         let chunk = [byte];
         let before = self.note;
         let taken = take_chunk(area, before, &chunk);
@@ -44,9 +43,8 @@ impl Heard {
         if taken.answer.value != 0
             && let Err(fault) = early_fault(area, before, &chunk)
         {
-            self.said = early::say(rt, area, before, fault, self.said)?;
+            self.said = early::say(rt, area, before, fault, self.said);
         }
-        Ok(())
     }
 
     // With what comes next, however long it takes to come: whether that is the end. Nothing that comes past the longest job changes the answer,
@@ -55,7 +53,7 @@ impl Heard {
         let mut bytes = [0u8; 4096];
         let piece = read_input(rt, &mut bytes)?;
         for byte in piece {
-            self.take_byte(rt, area, *byte)?;
+            self.take_byte(rt, area, *byte);
         }
         Ok(piece.is_empty() || AREA_BYTES < self.note.counted)
     }

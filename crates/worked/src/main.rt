@@ -23,6 +23,7 @@ mod worked_rows;
 mod write_lines;
 mod writes;
 
+use screen::passing::passed_over;
 use std::io;
 use table::Table;
 
@@ -45,12 +46,16 @@ fn jobs(table: &mut Table) -> io::Result<()> {
     job_versions::run(table)
 }
 
-fn main(rt: HostRuntime) -> io::Result<()> {
+fn all(rt: &HostRuntime) -> io::Result<()> {
     println!(rt;
         "The code of row and job against document 01: what must be, what is, and the verdict"
     )?;
-    let mut table = Table::new(&rt);
+    let mut table = Table::new(rt);
     rows(&mut table)?;
     jobs(&mut table)?;
     table.last_line()
+}
+
+fn main(rt: HostRuntime) {
+    passed_over(all(&rt));
 }
