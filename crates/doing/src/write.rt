@@ -1,4 +1,7 @@
 // `otp write`: a job from a text that a person types and can review. A text whose job the library would refuse for its bytes gives none.
+ghost use Rattle.std.specs.Prelude.{◌≡◌, IfOk, IsErrAnd};
+ghost use Rattle.console.specs.Ends.{StopsWith};
+
 use crate::text_errors::{Found, line, reason};
 use console::ended::{End, Stop};
 use console::files::load_text;
@@ -15,7 +18,9 @@ use typed::words::part;
 const ROOM: usize = 7 + 6 * (MOST_ENTRIES as usize + 1);
 
 // Names the line of a fault: the text is read again, as far as the entry.
-fn refuse(rt: &HostRuntime, place: usize, text: &[u8], fault: Fault) -> Result<End, Stop> {
+fn refuse(rt: &HostRuntime, place: usize, text: &[u8], fault: Fault) -> Result<End, Stop>
+    ensures { IsErrAnd result (StopsWith End.File) }
+{
     let found = Found::from(fault);
     let mut job = [0u8; ROOM];
     let reading = read(text, &mut job, found.entry.saturating_add(1)).unwrap_or_else(
@@ -25,7 +30,9 @@ fn refuse(rt: &HostRuntime, place: usize, text: &[u8], fault: Fault) -> Result<E
 }
 
 // The text is at one place, and the job is written at another, where the library finds no fault in it.
-fn of_text(rt: &HostRuntime, from: usize, to: usize, text: &[u8]) -> Result<End, Stop> {
+fn of_text(rt: &HostRuntime, from: usize, to: usize, text: &[u8]) -> Result<End, Stop>
+    ensures { IfOk result (λ end. end ≡ End.Answered 0) }
+{
     let mut bytes = [0u8; ROOM];
     let reading = match read(text, &mut bytes, MOST_ENTRIES + 1) {
         Ok(reading) => reading,
@@ -43,14 +50,18 @@ fn of_text(rt: &HostRuntime, from: usize, to: usize, text: &[u8]) -> Result<End,
     Ok(End::Answered(0))
 }
 
-fn of_words(rt: &HostRuntime, words: Words) -> Result<End, Stop> {
+fn of_words(rt: &HostRuntime, words: Words) -> Result<End, Stop>
+    ensures { IfOk result (λ end. end ≡ End.Answered 0) }
+{
     let mut bytes = [0u8; 65536];
     let from = needed(rt, words.first)?;
     let text = load_text(rt, from, &mut bytes)?;
     of_text(rt, from, needed(rt, words.second)?, text)
 }
 
-pub fn run(rt: &HostRuntime) -> Result<End, Stop> {
+pub fn run(rt: &HostRuntime) -> Result<End, Stop>
+    ensures { IfOk result (λ end. end ≡ End.Answered 0) }
+{
     let takes = Takes::words(Role::Text, Role::Written, 2, 2).with_replace();
     of_words(rt, asked(rt, takes)?)
 }

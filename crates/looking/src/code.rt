@@ -1,4 +1,6 @@
 // `otp code`: the code of a value, and the two rows that hold it (document 01, "A row with ECC").
+ghost use Rattle.std.specs.Prelude.{◌≡◌, ◌⊎◌, IfOk};
+
 use console::ended::{End, Stop};
 use console::takes::{Role, Takes};
 use console::usage::{asked, needed, number};
@@ -19,7 +21,9 @@ fn show(rt: &HostRuntime, value: u16) -> io::Result<()> {
     row_line(rt, "inverted", inverted(value))
 }
 
-pub fn run(rt: &HostRuntime) -> Result<End, Stop> {
+pub fn run(rt: &HostRuntime) -> Result<End, Stop>
+    ensures { IfOk result (λ end. (end ≡ End.Answered 0) ⊎ (end ≡ End.Answered 4)) }
+{
     let words = asked(rt, Takes::words(Role::Other, Role::Other, 1, 1))?;
     let value = number(rt, needed(rt, words.first)?)?;
     let Ok(value) = u16::try_from(value) else {

@@ -1,5 +1,7 @@
 // `otp compare`: two images, as a rehearsal beside a board that was burnt, and each row where they differ. Bits that the second lacks
 // and bits that it has more are told apart: the first can still be burnt, the others never go.
+ghost use Rattle.std.specs.Prelude.{◌≡◌, ◌⊎◌, IfOk};
+
 use crate::differences;
 use board::begin::after_reset;
 use console::ended::{End, Stop};
@@ -18,7 +20,9 @@ fn taken(rt: &HostRuntime, name: &str, place: usize, rows: &[u32; 4096]) -> Resu
     Ok(())
 }
 
-pub fn run(rt: &HostRuntime) -> Result<End, Stop> {
+pub fn run(rt: &HostRuntime) -> Result<End, Stop>
+    ensures { IfOk result (λ end. (end ≡ End.Answered 0) ⊎ (end ≡ End.Different)) }
+{
     let words = asked(rt, Takes::words(Role::Image, Role::Image, 2, 2))?;
     let first = needed(rt, words.first)?;
     let second = needed(rt, words.second)?;

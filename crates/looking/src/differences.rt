@@ -1,4 +1,6 @@
 // Where two images differ: a line for each such row, and a last one that counts them.
+ghost use Rattle.std.specs.Prelude.{◌≡◌, ◌⊎◌, IfOk};
+
 use console::ended::End;
 use row::coding::flipped;
 use row::writing::pulses;
@@ -122,7 +124,9 @@ fn last_lines(rt: &HostRuntime, found: Found) -> io::Result<()> {
 }
 
 // The lines, and how it ended.
-pub(crate) fn show(rt: &HostRuntime, a: &[u32; 4096], b: &[u32; 4096]) -> io::Result<End> {
+pub(crate) fn show(rt: &HostRuntime, a: &[u32; 4096], b: &[u32; 4096]) -> io::Result<End>
+    ensures { IfOk result (λ end. (end ≡ End.Answered 0) ⊎ (end ≡ End.Different)) }
+{
     let found = lines(rt, a, b)?;
     if found.rows == 0 {
         println!(rt; "the same: no row differs")?;

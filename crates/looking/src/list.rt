@@ -1,5 +1,8 @@
 // `otp list`: the entries of a job as the text that `otp write` takes, with both rows of an ECC value behind it and, of a lock row, what it
 // locks; or why it has none.
+ghost use Rattle.std.specs.Prelude.{ℕ, ◌≡◌, IfOk, List};
+ghost use Rattle.form.specs.Faults.{fault_number as number_of_fault, fault_of as fault_in};
+
 use board::lock_rows;
 use chip::pages::Page;
 use console::ended::{End, Stop};
@@ -8,7 +11,7 @@ use console::saving::Entries;
 use console::takes::{Role, Takes};
 use console::usage::{asked, needed};
 use form::entries::{Entry, count_of, version_of};
-use form::faults::fault_of;
+use form::faults::{fault_number, fault_of};
 use reader::handing::Found;
 use reader::readers::{FIRST_ENTRY, next_entry};
 use row::coding::{inverted, plain};
@@ -65,15 +68,22 @@ fn text(rt: &HostRuntime, job: &[u8]) -> io::Result<()> {
     println!(rt; "# {}", Entries(count_of(job)))
 }
 
-pub fn run(rt: &HostRuntime) -> Result<End, Stop> {
-    let words = asked(rt, Takes::words(Role::Job, Role::Other, 1, 1))?;
-    let mut bytes = [0u8; 3080];
-    let job = load_job(rt, needed(rt, words.first)?, &mut bytes)?;
-    if let Err(fault) = fault_of(job) {
-        let number = fault.refusal().number();
+fn of_job(rt: &HostRuntime, job: &[u8]) -> Result<End, Stop>
+    ensures { IfOk result (λ end. end ≡ End.Answered (number_of_fault (fault_in job.now))) }
+{
+    let number = fault_number(fault_of(job));
+    if number != 0 {
         job_refusals::headline(rt, job, number, 0)?;
         return Ok(End::Answered(number));
     }
     text(rt, job)?;
     Ok(End::Answered(0))
+}
+
+pub fn run(rt: &HostRuntime) -> Result<End, Stop>
+    ensures { IfOk result (λ end. (job : List ℕ) × (end ≡ End.Answered (number_of_fault (fault_in job)))) }
+{
+    let words = asked(rt, Takes::words(Role::Job, Role::Other, 1, 1))?;
+    let mut bytes = [0u8; 3080];
+    of_job(rt, load_job(rt, needed(rt, words.first)?, &mut bytes)?)
 }

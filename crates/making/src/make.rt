@@ -1,4 +1,8 @@
 // `otp make`: the job that burns a present image into a wanted one (request 2026-04).
+ghost use Rattle.std.specs.Prelude.{◌≡◌, IfOk, replicate};
+ghost use Rattle.maker.specs.Making.{make_job as made_of};
+ghost use Rattle.making.specs.Ends.{Makes};
+
 use crate::against;
 use crate::found::bits_to_burn;
 use console::ended::{End, Stop};
@@ -35,7 +39,9 @@ fn of_images(
     place: usize,
     present: &[u32; 4096],
     wanted: &[u32; 4096],
-) -> Result<End, Stop> {
+) -> Result<End, Stop>
+    ensures { IfOk result (λ end. end ≡ End.Answered (made_of present.now wanted.now (replicate ROOM 0)).answer.number) }
+{
     let mut bytes = [0u8; ROOM];
     let answer = make_job(present, wanted, &mut bytes);
     // By its number: an answer of the library has one, and is no result.
@@ -50,7 +56,9 @@ fn of_images(
     Ok(End::Answered(0))
 }
 
-fn of_words(rt: &HostRuntime, words: Words) -> Result<End, Stop> {
+fn of_words(rt: &HostRuntime, words: Words) -> Result<End, Stop>
+    ensures { IfOk result Makes }
+{
     let mut present = [0u32; 4096];
     load_image(rt, needed(rt, words.first)?, &mut present)?;
     let mut wanted = [0u32; 4096];
@@ -58,7 +66,9 @@ fn of_words(rt: &HostRuntime, words: Words) -> Result<End, Stop> {
     of_images(rt, needed(rt, words.third)?, &present, &wanted)
 }
 
-pub fn run(rt: &HostRuntime) -> Result<End, Stop> {
+pub fn run(rt: &HostRuntime) -> Result<End, Stop>
+    ensures { IfOk result Makes }
+{
     let takes = Takes::words(Role::Image, Role::Image, 3, 3)
         .with_third(Role::Written)
         .with_replace();

@@ -1,4 +1,7 @@
 // `otp repair`: the repair pass over the rows of a range or of a text, on a copy of an image (request 2026-11).
+ghost use Rattle.std.specs.Prelude.{IfOk};
+ghost use Rattle.mending.specs.Ends.{Repairs};
+
 use crate::list_errors;
 use crate::lists::{first, put_range};
 use crate::pass::Pass;
@@ -16,7 +19,9 @@ use text::lists::read;
 const MOST: u32 = 4096;
 
 // The list is the first rows of an array.
-fn by_text(rt: &HostRuntime, words: Words, place: usize) -> Result<End, Stop> {
+fn by_text(rt: &HostRuntime, words: Words, place: usize) -> Result<End, Stop>
+    ensures { IfOk result Repairs }
+{
     let mut rows = [0u32; 4096];
     let state = begin(rt, words, &mut rows)?;
     let mut bytes = [0u8; 65536];
@@ -36,7 +41,9 @@ fn by_text(rt: &HostRuntime, words: Words, place: usize) -> Result<End, Stop> {
     pass.run(rt, words, copy)
 }
 
-fn by_range(rt: &HostRuntime, words: Words) -> Result<End, Stop> {
+fn by_range(rt: &HostRuntime, words: Words) -> Result<End, Stop>
+    ensures { IfOk result Repairs }
+{
     let range = range::from_first_to_last(rt, words)?;
     let mut rows = [0u32; 4096];
     let state = begin(rt, words, &mut rows)?;
@@ -52,7 +59,9 @@ fn by_range(rt: &HostRuntime, words: Words) -> Result<End, Stop> {
     pass.run(rt, words, copy)
 }
 
-pub fn run(rt: &HostRuntime) -> Result<End, Stop> {
+pub fn run(rt: &HostRuntime) -> Result<End, Stop>
+    ensures { IfOk result Repairs }
+{
     let takes = Takes::on_image(Role::Other, 1, 3).with_rows().with_save();
     let words = asked(rt, takes)?;
     match (words.rows, words.second) {

@@ -1,4 +1,7 @@
 // A repair pass that is asked for, and how it is made: on a copy of an image (request 2026-11).
+ghost use Rattle.std.specs.Prelude.{◌≡◌, IfOk, replicate};
+ghost use Rattle.repair.specs.Pass.{repair as repair_of};
+
 use crate::{against, show};
 use board::begin::finish;
 use chip::state::State;
@@ -24,7 +27,10 @@ impl Pass<'_> {
         rt: &HostRuntime,
         words: Words,
         mut after: [u32; 4096],
-    ) -> Result<End, Stop> {
+    ) -> Result<End, Stop>
+        ensures { IfOk result (λ end. end
+            ≡ End.Answered (repair_of after self.now.state self.now.list.now (replicate 4096 0)).left.outcome.answer.number) }
+    {
         let mut report = [0u32; 4096];
         let outcome = repair(&mut after, self.state, self.list, &mut report);
         let number = outcome.answer.number;

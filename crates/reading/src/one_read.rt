@@ -1,5 +1,6 @@
 // The screen of one read: the answer, what was read, the bits of each row that is read, and whose row it is.
-ghost use Rattle.std.specs.Prelude.{◌≤◌};
+ghost use Rattle.std.specs.Prelude.{◌≡◌, ◌≤◌};
+ghost use Rattle.reading.specs.Reads as spec;
 
 use access::reads::{read_ecc, read_raw};
 use access::votes::read_vote;
@@ -20,7 +21,9 @@ pub(crate) enum Way {
 }
 
 impl Way {
-    pub(crate) fn read(self, rows: &[u32], state: State, caller: u32, row: u32) -> Answer {
+    pub(crate) fn read(self, rows: &[u32], state: State, caller: u32, row: u32) -> Answer
+        ensures { result ≡ spec.read_by self rows.now state caller row }
+    {
         match self {
             Way::Ecc => read_ecc(rows, state, caller, row),
             Way::Raw => read_raw(rows, state, caller, row),

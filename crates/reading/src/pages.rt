@@ -1,5 +1,5 @@
 // `otp pages`: the 64 pages on one screen of 80 columns, the sum of the bits burnt, and the valid keys.
-ghost use Rattle.std.specs.Prelude.{◌<◌};
+ghost use Rattle.std.specs.Prelude.{◌≡◌, ◌<◌, IfOk};
 
 use crate::page_line::{Line, TITLES};
 use board::begin::{begin, finish};
@@ -140,7 +140,9 @@ fn show(rt: &HostRuntime, state: State) -> io::Result<()> {
     key_lines(rt, state)
 }
 
-pub fn run(rt: &HostRuntime) -> Result<End, Stop> {
+pub fn run(rt: &HostRuntime) -> Result<End, Stop>
+    ensures { IfOk result (λ end. end ≡ End.Answered 0) }
+{
     let words = asked(rt, Takes::on_image(Role::Other, 1, 1))?;
     let mut rows = [0u32; 4096];
     let state = begin(rt, words, &mut rows)?;

@@ -1,13 +1,18 @@
 // `otp read`: one row with ECC, as it is, or by a vote, and whose row it is (document 01).
+ghost use Rattle.std.specs.Prelude.{◌≡◌, IfOk};
+ghost use Rattle.reading.specs.Reads.{Reads, read_by};
+
 use crate::one_read::{Read, Way, headline};
 use board::begin::{begin, finish};
 use chip::callers::{BOOTLOADER, NONSECURE, SECURE};
 use chip::pages::Page;
+use chip::state::State;
 use console::ended::{End, Stop};
 use console::options::Words;
 use console::takes::{Role, Takes};
 use console::usage::asked;
 use console::{usage, word};
+use std::io;
 
 // The way that the options ask for.
 fn way_asked(rt: &HostRuntime, words: Words) -> Result<Way, Stop> {
@@ -55,27 +60,42 @@ fn caller_asked(rt: &HostRuntime, words: Words) -> Result<u32, Stop> {
     }
 }
 
-// Of a row that the chip does not have only the answer is shown.
-pub fn run(rt: &HostRuntime) -> Result<End, Stop> {
+// The number of the answer. Of a row that the chip does not have only that is shown.
+fn answered(
+    rt: &HostRuntime,
+    rows: &[u32; 4096],
+    state: State,
+    caller: u32,
+    row: u32,
+    way: Way,
+) -> io::Result<u32>
+    ensures { IfOk result (λ number. number ≡ (read_by way rows.now state caller row).number) }
+{
+    let answer = way.read(rows, state, caller, row);
+    if Page::LAST_ROW < row {
+        headline(rt, answer.number, row)?;
+        return Ok(answer.number);
+    }
+    let read = Read {
+        rows,
+        state,
+        caller,
+        row,
+        way,
+    };
+    read.show(rt, answer)?;
+    Ok(answer.number)
+}
+
+pub fn run(rt: &HostRuntime) -> Result<End, Stop>
+    ensures { IfOk result Reads }
+{
     let words = asked(rt, Takes::on_image(Role::Other, 2, 2).with_ways())?;
     let row = usage::number(rt, usage::needed(rt, words.second)?)?;
     let caller = caller_asked(rt, words)?;
     let way = way_asked(rt, words)?;
     let mut rows = [0u32; 4096];
     let state = begin(rt, words, &mut rows)?;
-    let answer = way.read(&rows, state, caller, row);
-    if Page::LAST_ROW < row {
-        headline(rt, answer.number, row)?;
-    } else {
-        let rows = &rows;
-        let read = Read {
-            rows,
-            state,
-            caller,
-            row,
-            way,
-        };
-        read.show(rt, answer)?;
-    }
-    finish(rt, words, state, answer.number)
+    let number = answered(rt, &rows, state, caller, row, way)?;
+    finish(rt, words, state, number)
 }

@@ -1,4 +1,9 @@
 // `otp receive`: a job taken from standard input as its bytes come, and run on a copy of an image at their end (request 2026-01).
+ghost use Rattle.std.specs.Prelude.{◌≡◌, IfOk};
+ghost use Rattle.typed.specs.Words.{part_of};
+ghost use Rattle.lead.specs.Ending.{end_job as end_of};
+ghost use Rattle.receiving.specs.Ends.{Receives};
+
 use crate::early;
 use board::begin::begin;
 use chip::state::State;
@@ -78,7 +83,9 @@ fn ended(
     state: State,
     room: &[u8; ROOM],
     note: Note,
-) -> Result<End, Stop> {
+) -> Result<End, Stop>
+    ensures { IfOk result (λ end. end ≡ End.Answered (end_of before.now state (part_of room.now 0 AREA) note).outcome.answer.number) }
+{
     // The area and the job are the first bytes of the room: nothing is allocated.
     let mut after = *before;
     let outcome = end_job(&mut after, state, part(room, 0, AREA), note);
@@ -94,7 +101,9 @@ fn ended(
 }
 
 // The image is loaded first, so that what is wrong with it is said before anything is awaited.
-fn of_words(rt: &HostRuntime, words: Words) -> Result<End, Stop> {
+fn of_words(rt: &HostRuntime, words: Words) -> Result<End, Stop>
+    ensures { IfOk result Receives }
+{
     let mut rows = [0u32; 4096];
     let state = begin(rt, words, &mut rows)?;
     let mut room = [0u8; ROOM];
@@ -103,7 +112,9 @@ fn of_words(rt: &HostRuntime, words: Words) -> Result<End, Stop> {
 }
 
 // The job has no word: it is standard input.
-pub fn run(rt: &HostRuntime) -> Result<End, Stop> {
+pub fn run(rt: &HostRuntime) -> Result<End, Stop>
+    ensures { IfOk result Receives }
+{
     let takes = Takes::on_image(Role::Job, 1, 1).with_save();
     of_words(rt, asked(rt, takes)?)
 }
