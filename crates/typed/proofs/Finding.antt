@@ -1,6 +1,6 @@
 -- Places in a text: where a kind of byte is found first, the part before it, and the words of a line.
 -- Assumes nothing.
-use mathlib.Core.Path.{◌≡◌, refl, sym, ap}
+use mathlib.Core.Path.{◌≡◌, refl, sym, ap, ap₂, ◌∙◌}
 use mathlib.Core.Bool.{Bool, true, false, not, cond}
 use mathlib.Core.List.{List, [], ◌∷◌}
 use Prim.Native.Nat.{ℕ, zero, suc, ◌+◌, ◌-◌, ◌≤◌, ◌<◌, min}
@@ -14,6 +14,7 @@ use Rattle.std.proofs.lemmas.List.Recursion.{is_position_or_len}
 use Rattle.std.specs.List.{position_or_len}
 use Rattle.std.specs.Option.{unwrap_or}
 use Rattle.std.specs.Prelude.{Option, Some, None, if◌then◌else◌}
+use Rattle.typed.specs.declared.words.Span.{Span}
 use Rattle.typed.specs.Words.{is_blank, is_written, up_to, place_of, part_of, word_from, word_at, word_of}
 
 module _ (kind : ℕ → Bool) where
@@ -115,6 +116,17 @@ module _ (line : List ℕ) where
       let ends : (word_at line n).to ≤ length line = rw (word_ends n) (place_inside is_blank line (word_at line n).from) in
       let behind : taken ≡ drop (word_at line n).to line = rw (past, from, word_ends n) (rest_from is_blank line (word_at line n).from (word_begins n)) in
       rw (behind, add-one) (rest_from is_written line (word_at line n).to ends)
+
+  -- it stands where that many bytes are left of the line, as far as the next blank
+  pub word_stands : (n : ℕ) (rest : List ℕ) (span : Span) → rest ≡ drop (word_at line n).from line
+      → span.from ≡ length line - length rest → span.to ≡ span.from + length (up_to is_blank rest) → span ≡ word_at line n
+  unfolding place_of
+  word_stands n rest span left from to =
+      let long : length rest ≡ length line - (word_at line n).from = ap length left ∙ length-drop (word_at line n).from line in
+      let first : span.from ≡ (word_at line n).from = omega (arith, word_begins n) in
+      let past : span.to ≡ (word_at line n).from + length (up_to is_blank (drop (word_at line n).from line)) = rw (← left, ← first) to in
+      let last : span.to ≡ (word_at line n).to = rw (word_ends n) (omega (arith, word_begins n)) in
+      ap₂ (λ (from to : ℕ). record { from = from; to = to }) first last
 
   -- and is what stands there before the next blank
   pub word_is : (n : ℕ) → up_to is_blank (drop (word_at line n).from line) ≡ word_of line n

@@ -1,11 +1,7 @@
 -- A text as lines and words.
 use Rattle.std.specs.Prelude.{ℕ, zero, suc, ◌+◌, ◌-◌, min, Bool, not, ◌||◌, List, [], ◌∷◌, eqb, leb, length, take, drop}
 use Rattle.std.specs.Prelude.{if◌then◌else◌}
-
--- where a word begins, and where it is past
-pub record Span : Type 0 where
-  pub from : ℕ
-  pub to : ℕ
+use Rattle.typed.specs.declared.words.Span.{Span}
 
 -- a line ends with a line feed
 abbrev pub ends_line : ℕ → Bool

@@ -2,6 +2,13 @@
 ghost use Rattle.std.specs.Prelude.{◌≡◌, ◌≤◌, drop, eqb, length};
 ghost use Rattle.typed.specs.Words as spec;
 
+// Where a word begins in its line, and where it is past.
+#[derive(Clone, Copy)]
+pub struct Span {
+    pub from: usize,
+    pub to: usize,
+}
+
 // A line of a text from another system ends with a carriage return too.
 fn is_blank(byte: u8) -> bool
     ensures { result ≡ spec.is_blank byte }
@@ -57,13 +64,23 @@ pub fn next_line(text: &[u8], start: usize) -> usize
     (start.min(text.len()) + line.len() + 1).min(text.len())
 }
 
-// A word of a line, counted from 0. It is empty where there is none.
-pub fn word(line: &[u8], n: u32) -> &[u8]
-    ensures { result.now ≡ spec.word_of line.now n }
+// Where a word of a line stands, counted from 0. One that is not there is empty, past the last.
+pub fn word_at(line: &[u8], n: u32) -> Span
+    ensures { result ≡ spec.word_at line.now n }
 {
     let mut rest = past_blanks(line);
     for _ in 0..n {
         rest = past_blanks(&rest[first_word(rest).len()..]);
     }
-    first_word(rest)
+    let from = line.len() - rest.len();
+    let to = from + first_word(rest).len();
+    Span { from, to }
+}
+
+// A word of a line, counted from 0. It is empty where there is none.
+pub fn word(line: &[u8], n: u32) -> &[u8]
+    ensures { result.now ≡ spec.word_of line.now n }
+{
+    let span = word_at(line, n);
+    part(line, span.from, span.to)
 }
