@@ -1,6 +1,7 @@
 // One word of the command. It is known by its place, and read again where it is needed. What it is comes from outside: so a contract here says
 // what is told of some word.
-ghost use Rattle.std.specs.Prelude.{[], ◌∷◌, ◌≡◌, ◌≤◌};
+ghost use Rattle.std.specs.Prelude.{[], ◌∷◌, ◌≡◌, ◌≤◌, length};
+ghost use Rattle.std.specs.Ptr.{as_ptr, as_mut_ptr};
 ghost use Rattle.chip.specs.Lists.{same as same_lists};
 ghost use Rattle.typed.specs.Numbers.{number_of, key_spelled};
 ghost use Rattle.console.specs.Given.{SomeWord};
@@ -19,8 +20,11 @@ pub(crate) fn put(rt: &HostRuntime, place: usize, bytes: &mut [u8]) -> Result<us
     rt.arg(place, bytes)
 }
 
-// The same, where a word that is missing or longer is one of no bytes.
-pub(crate) fn read<'a>(rt: &HostRuntime, place: usize, bytes: &'a mut [u8]) -> &'a [u8] {
+// The same, where a word that is missing or longer is one of no bytes. It stands where the bytes begin, and is no longer than they are.
+pub(crate) fn read<'a>(rt: &HostRuntime, place: usize, bytes: &'a mut [u8]) -> &'a [u8]
+    ensures beginning { as_ptr result ≡ as_mut_ptr bytes.entry }
+    ensures upper_bound { length result.now ≤ length bytes.old }
+{
     let n = put(rt, place, bytes).unwrap_or(0);
     &bytes[..n]
 }
