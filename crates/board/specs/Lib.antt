@@ -1,2 +1,3 @@
 pub mod Begins
 pub mod Ranges
+pub mod Resets

@@ -1,12 +1,18 @@
 // An image with an entry that is too large: its row, what that says of the image, and a reset that is refused for it (document 01, "Locks").
-use chip::slices::{MOST_HELD, row_at};
+ghost use Rattle.board.specs.Resets.{FirstTooLarge};
+
+use chip::slices::row_at;
+use latch::resetting::all_in_range;
 use std::io;
 use wording::refusals::OfRow;
 
-// The first row that is not as the reset asks of all.
-fn first_too_large(rows: &[u32]) -> u32 {
+// The first row that is not as the reset asks of all, found by the test of the reset itself. 0 where there is none, of which `FirstTooLarge` says
+// nothing.
+fn first_too_large(rows: &[u32]) -> u32
+    ensures { FirstTooLarge rows.now result }
+{
     (0..4096)
-        .find(|row| MOST_HELD < row_at(rows, *row))
+        .find(|row| !all_in_range(&[row_at(rows, *row)]))
         .unwrap_or(0)
 }
 
