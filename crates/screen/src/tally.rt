@@ -16,7 +16,7 @@ const MOST: u32 = 1000000;
 
 // The sum of two counts. Where one is past what a run can reach, it stops there and can't wrap: so the definition has it, and `saturating_add` does
 // not stop there.
-fn sum(count: u32, more: u32) -> u32
+pub fn sum(count: u32, more: u32) -> u32
     ensures { result ≡ spec.sum count more }
 {
     if MOST < count || MOST < more {
@@ -26,7 +26,7 @@ fn sum(count: u32, more: u32) -> u32
 }
 
 // One more where the test holds.
-fn one_more(count: u32, holds: bool) -> u32
+pub fn one_more(count: u32, holds: bool) -> u32
     ensures { result ≡ spec.one_more count holds }
 {
     if holds { sum(count, 1) } else { count }
