@@ -21,7 +21,7 @@ loop-i-preserved c =
     let l = c.loop-i in (
       simp length-set l.invariant.0,
       ap (λ (area : List ℕ). set area (s.start + l.i) (get_or s.chunk.now l.i 0)) l.invariant.1
-      ∙ rw add-one (one_more s.area.now s.start s.chunk.now l.i (omega (arith, c.min-bytes.ensures))),
+          ∙ rw add-one (one_more s.area.now s.start s.chunk.now l.i (omega (arith, c.min-bytes.ensures))),
     )
 
 pub returns : goal.returns
