@@ -54,6 +54,8 @@ fn ecc_burnt(
 
 // Burns a row where its write is let, counts its new bits, and answers. One that is refused leaves the rows and the tallies as they were. It has
 // the tallies alone: with the state in its place, and the outcome for its answer, the state is copied once more, which a Hazard3 does byte by byte.
+// It stays a call: inlined into the writes it makes them so long that the compiler for x86-64 zeroes the outcome first, and copies it once more.
+#[inline(never)]
 fn burn(rows: &mut [u32], tallies: &mut [u16], row: u32, written: Result<Burnt, Refusal>) -> Answer
     ensures { MatchResult written
         (λ burnt. (result ≡ spent_of 0 burnt.pulses)
