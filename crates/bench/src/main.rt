@@ -12,13 +12,13 @@ use making::make;
 use mending::mend;
 use reading::{pages, read};
 use receiving::receive;
-use screen::passing::passed_over;
+use screen::say_line;
 use std::env::Env;
 
 // The page names no file.
 fn help(rt: &HostRuntime) -> Result<End, Stop> {
     if !word::naming(rt) {
-        page::show(rt)?;
+        page::show(rt);
     }
     Ok(End::Answered(0))
 }
@@ -45,10 +45,8 @@ fn run(rt: &HostRuntime) -> Result<End, Stop> {
     }
 }
 
-// The last line says how the command ended. Where the screen took no more, there is none to say it.
+// The last line says how the command ended.
 fn main(rt: HostRuntime) {
-    passed_over(match run(&rt) {
-        Ok(end) | Err(Stop::Ended(end)) => println!(rt; "{end}"),
-        Err(Stop::Screen(error)) => Err(error),
-    });
+    let (Ok(end) | Err(Stop(end))) = run(&rt);
+    say_line!(&rt; "{end}");
 }

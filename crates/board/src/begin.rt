@@ -15,6 +15,7 @@ use console::{files, usage, word};
 use latch::resetting::reset;
 use lock::calls::enter_key;
 use permit::keys::matches;
+use screen::say_line;
 
 // The image after a reset. Where that is refused, the lines of the refusal have said so.
 pub fn after_reset(rt: &HostRuntime, rows: &[u32]) -> Result<State, Stop>
@@ -25,8 +26,8 @@ pub fn after_reset(rt: &HostRuntime, rows: &[u32]) -> Result<State, Stop>
     let number = outcome.answer.number;
     // By its number: an answer of the library has one, and is no result.
     if number != 0 {
-        reset_refusals::lines(rt, number, rows)?;
-        return Err(Stop::Ended(End::Answered(number)));
+        reset_refusals::lines(rt, number, rows);
+        return Err(Stop(End::Answered(number)));
     }
     Ok(outcome.state)
 }
@@ -71,7 +72,7 @@ pub fn finish(rt: &HostRuntime, words: Words, state: State, number: u32) -> Resu
     ensures { IfOk result (λ end. end ≡ End.Answered number) }
 {
     if words.key.is_some() && !(1..7).any(|index| matches(state, index)) {
-        println!(rt; "The key entered matches no valid key.")?;
+        say_line!(rt; "The key entered matches no valid key.");
     }
     Ok(End::Answered(number))
 }

@@ -3,7 +3,7 @@ ghost use Rattle.board.specs.Resets.{FirstTooLarge};
 
 use chip::slices::row_at;
 use latch::resetting::all_in_range;
-use std::io;
+use screen::{say, say_line};
 use wording::refusals::OfRow;
 
 // The first row that is not as the reset asks of all, found by the test of the reset itself. 0 where there is none, of which `FirstTooLarge` says
@@ -22,18 +22,17 @@ fn all_low_bytes_zero(rows: &[u32]) -> bool {
 }
 
 // ", row 0x005", what it holds, and what that says of the image.
-pub fn entry_lines(rt: &HostRuntime, rows: &[u32]) -> io::Result<()> {
+pub fn entry_lines(rt: &HostRuntime, rows: &[u32]) {
     let row = first_too_large(rows);
     let bits = row_at(rows, row);
-    println!(rt; "{}", OfRow(row))?;
-    println!(rt; "   it is {bits:#010x}: the row could not be read, or the file is no image")?;
+    say_line!(rt; "{}", OfRow(row));
+    say_line!(rt; "   it is {bits:#010x}: the row could not be read, or the file is no image");
     if all_low_bytes_zero(rows) {
-        println!(rt; "   every entry has a low byte of 0, as in a dump of the other byte order")?;
+        say_line!(rt; "   every entry has a low byte of 0, as in a dump of the other byte order");
     }
-    Ok(())
 }
 
-pub(crate) fn lines(rt: &HostRuntime, number: u32, rows: &[u32]) -> io::Result<()> {
-    print!(rt; "{number}: the reset of this image is refused: an entry above 16,777,215")?;
-    entry_lines(rt, rows)
+pub(crate) fn lines(rt: &HostRuntime, number: u32, rows: &[u32]) {
+    say!(rt; "{number}: the reset of this image is refused: an entry above 16,777,215");
+    entry_lines(rt, rows);
 }

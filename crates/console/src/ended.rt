@@ -1,8 +1,5 @@
 // How a command ends: by its last line, since a program has no exit status of its own. The script ./otp cuts that line off and goes by it.
-ghost use Rattle.std.specs.Prelude.{◌≡◌};
-ghost use Rattle.console.specs.declared.ended.Stop.TheVariants.{Screen};
-
-use std::{fmt, io};
+use std::fmt;
 
 // `Answered` has the number that the library answered with. `Different`: two images differ. `Usage`: a word is not what it must be. `File`: a
 // file is not what it must be, or the system refuses it.
@@ -25,17 +22,6 @@ impl fmt::Display for End {
     }
 }
 
-// Why a command goes no further: it has ended, and what it had to say is said; or the screen takes no more.
+// Why a command goes no further: it has ended, and what it had to say is said.
 #[derive(Clone, Copy)]
-pub enum Stop {
-    Ended(End),
-    Screen(io::Error),
-}
-
-impl From<io::Error> for Stop {
-    ghost from_gives = { λ error stop. stop ≡ Screen error };
-
-    fn from(error: io::Error) -> Stop {
-        Stop::Screen(error)
-    }
-}
+pub struct Stop(pub End);

@@ -4,6 +4,7 @@ ghost use Rattle.console.specs.Ends.{StopsWith};
 
 use crate::ended::{End, Stop};
 use crate::word;
+use screen::{say, say_line};
 use std::env::FillError;
 use std::{fmt, io, str};
 
@@ -97,19 +98,19 @@ pub(crate) fn named(bytes: &[u8]) -> Result<&str, Wrong> {
 }
 
 // The beginning of a line on the file at a place: "otp: 'card.img': ".
-pub fn said(rt: &HostRuntime, place: usize) -> io::Result<()> {
-    print!(rt; "otp: '")?;
-    word::print(rt, place)?;
-    print!(rt; "': ")
+pub fn said(rt: &HostRuntime, place: usize) {
+    say!(rt; "otp: '");
+    word::print(rt, place);
+    say!(rt; "': ");
 }
 
 // One line on the file at a place, which ends the command.
 pub fn refused<T>(rt: &HostRuntime, place: usize, what: impl fmt::Display + Drop) -> Result<T, Stop>
     ensures { IsErrAnd result (StopsWith End.File) }
 {
-    said(rt, place)?;
-    println!(rt; "{what}")?;
-    Err(Stop::Ended(End::File))
+    said(rt, place);
+    say_line!(rt; "{what}");
+    Err(Stop(End::File))
 }
 
 // The command has ended, since the file at a place cannot be read.
@@ -123,8 +124,8 @@ pub fn unread<T>(rt: &HostRuntime, place: usize, wrong: Wrong) -> Result<T, Stop
 pub fn input_unread<T>(rt: &HostRuntime, wrong: Wrong) -> Result<T, Stop>
     ensures { IsErrAnd result (StopsWith End.File) }
 {
-    println!(rt; "otp: standard input cannot be read: {wrong}")?;
-    Err(Stop::Ended(End::File))
+    say_line!(rt; "otp: standard input cannot be read: {wrong}");
+    Err(Stop(End::File))
 }
 
 // The same of a file that cannot be written.

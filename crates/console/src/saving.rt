@@ -7,6 +7,7 @@ use crate::file_errors::{Wrong, named, unwritten};
 use crate::options::Words;
 use crate::word;
 use image::rows::bytes_of;
+use screen::{say, say_line};
 use std::fs::{File, OpenOptions};
 use std::io::Write;
 use std::{fmt, fs, io};
@@ -89,13 +90,13 @@ pub fn save_asked(rt: &HostRuntime, words: Words, rows: &[u32; 4096]) -> Result<
 }
 
 // "saved as cut.img", where that was asked for.
-pub fn saved_line(rt: &HostRuntime, words: Words) -> io::Result<()> {
+pub fn saved_line(rt: &HostRuntime, words: Words) {
     let Some(place) = words.save else {
-        return Ok(());
+        return;
     };
-    print!(rt; "saved as ")?;
-    word::print(rt, place)?;
-    println!(rt;)
+    say!(rt; "saved as ");
+    word::print(rt, place);
+    say_line!(rt; "");
 }
 
 // How many entries a job has that is written: "1 entry", "5 entries".
@@ -112,12 +113,8 @@ impl fmt::Display for Entries {
 }
 
 // "5 entries, written as card.job"
-pub fn written_line(
-    rt: &HostRuntime,
-    what: impl fmt::Display + Drop,
-    place: usize,
-) -> io::Result<()> {
-    print!(rt; "{what}, written as ")?;
-    word::print(rt, place)?;
-    println!(rt;)
+pub fn written_line(rt: &HostRuntime, what: impl fmt::Display + Drop, place: usize) {
+    say!(rt; "{what}, written as ");
+    word::print(rt, place);
+    say_line!(rt; "");
 }

@@ -1,6 +1,7 @@
 // How one line on a text begins that is not what it must be: the number of its line, and the word. What is wrong with it comes after that.
 use crate::file_errors::said;
-use std::{fmt, io};
+use screen::say;
+use std::fmt;
 use typed::words::{line_at, word};
 
 // A word as it is shown, or the beginning of one that is longer than any number has to be. No word that fits has a byte that is not to be seen,
@@ -26,17 +27,10 @@ impl fmt::Display for Shown<'_> {
 
 // "otp: 'card.txt': line 3: '0x0c0': ", of the line that begins at `start` and its n-th word, counted from 0. The crate that
 // reads texts is not known here: so these come by themselves.
-pub fn at(
-    rt: &HostRuntime,
-    place: usize,
-    text: &[u8],
-    number: u32,
-    start: usize,
-    n: u32,
-) -> io::Result<()> {
+pub fn at(rt: &HostRuntime, place: usize, text: &[u8], number: u32, start: usize, n: u32) {
     let own = Shown(word(line_at(text, start), n));
-    said(rt, place)?;
-    print!(rt; "line {number}: '{own}': ")
+    said(rt, place);
+    say!(rt; "line {number}: '{own}': ");
 }
 
 // A number is the same in every text.

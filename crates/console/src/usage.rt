@@ -9,14 +9,15 @@ use crate::file_errors::said;
 use crate::options::{Odd, Words};
 use crate::takes::Takes;
 use crate::{names, word};
+use screen::say_line;
 
 // A word that is not what it must be.
 pub fn wrong<T>(rt: &HostRuntime, place: usize, why: &str) -> Result<T, Stop>
     ensures { IsErrAnd result (StopsWith End.Usage) }
 {
-    said(rt, place)?;
-    println!(rt; "{why}")?;
-    Err(Stop::Ended(End::Usage))
+    said(rt, place);
+    say_line!(rt; "{why}");
+    Err(Stop(End::Usage))
 }
 
 pub fn not_a_number<T>(rt: &HostRuntime, place: usize) -> Result<T, Stop>
@@ -45,8 +46,8 @@ pub fn no_command<T>(rt: &HostRuntime) -> Result<T, Stop>
 {
     let place = word::command(rt);
     if word::arg_count(rt) <= place {
-        println!(rt; "otp: no command; ./otp help shows them")?;
-        return Err(Stop::Ended(End::Usage));
+        say_line!(rt; "otp: no command; ./otp help shows them");
+        return Err(Stop(End::Usage));
     }
     wrong(rt, place, "no such command; ./otp help shows them")
 }
@@ -182,8 +183,8 @@ pub fn asked(rt: &HostRuntime, takes: Takes) -> Result<Words, Stop>
     let odd = words.take_all(rt);
     fit(rt, words, odd, takes)?;
     if word::naming(rt) {
-        names::lines(rt, words, takes)?;
-        return Err(Stop::Ended(End::Answered(0)));
+        names::lines(rt, words, takes);
+        return Err(Stop(End::Answered(0)));
     }
     Ok(words)
 }

@@ -9,7 +9,6 @@ ghost use Rattle.std.specs.Io.{ReadsAtMost};
 
 use crate::shown;
 use std::env::{Env, FillError};
-use std::io;
 use typed::numbers;
 
 // Puts a word at the start of some bytes: how long it is, or why not, where there is none or where it is longer. Then the bytes are its
@@ -87,11 +86,11 @@ pub fn key(rt: &HostRuntime, place: usize) -> Option<[u8; 16]>
 }
 
 // A word on the screen, or the beginning of one that is longer than any path. A word that is not there has no bytes.
-pub fn print(rt: &HostRuntime, place: usize) -> io::Result<()> {
+pub fn print(rt: &HostRuntime, place: usize) {
     let mut word = [0u8; 4096];
     match put(rt, place, &mut word) {
         Ok(n) => shown::whole(rt, &word[..n]),
         Err(FillError::TooLong) => shown::beginning(rt, &word),
-        Err(FillError::NotPresent) => Ok(()),
+        Err(FillError::NotPresent) => {}
     }
 }

@@ -5,6 +5,7 @@ ghost use Rattle.console.specs.Ends.{StopsWith};
 use console::ended::{End, Stop};
 use console::text_errors::{NO_NUMBER, at};
 use form::faults::{Fault, MOST_ENTRIES};
+use screen::say_line;
 use text::entries::Why;
 use text::reading::Reading;
 
@@ -64,7 +65,7 @@ pub(crate) fn line<T>(
 ) -> Result<T, Stop>
     ensures { IsErrAnd result (StopsWith End.File) }
 {
-    at(rt, place, text, reading.line, reading.start, n)?;
-    println!(rt; "{why}")?;
-    Err(Stop::Ended(End::File))
+    at(rt, place, text, reading.line, reading.start, n);
+    say_line!(rt; "{why}");
+    Err(Stop(End::File))
 }

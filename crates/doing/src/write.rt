@@ -46,7 +46,7 @@ fn of_text(rt: &HostRuntime, from: usize, to: usize, text: &[u8]) -> Result<End,
         return refuse(rt, from, text, fault);
     }
     save_bytes(rt, to, job)?;
-    written_line(rt, Entries(count), to)?;
+    written_line(rt, Entries(count), to);
     Ok(End::Answered(0))
 }
 

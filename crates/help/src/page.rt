@@ -1,5 +1,5 @@
 // The page that `otp help` shows.
-use std::io;
+use screen::say_line;
 
 const PAGE: &str = "\
 ./otp rehearse IMAGE JOB [LIMIT] [--key HEX32] [--save OUT [--replace]]
@@ -65,6 +65,8 @@ ROW, FIRST, LAST, VALUE and LIMIT are decimal, or hexadecimal after 0x.
 Everything happens after a reset of the image; the key is entered by Secure.
 The exit status is 0 where the answer is 0, 1 where it is a refusal, 2 for a wrong word or file.";
 
-pub fn show(rt: &HostRuntime) -> io::Result<()> {
-    println!(rt; "{PAGE}")
+pub fn show(rt: &HostRuntime) {
+    for line in PAGE.lines() {
+        say_line!(rt; "{line}");
+    }
 }

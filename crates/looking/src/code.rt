@@ -5,20 +5,20 @@ use console::ended::{End, Stop};
 use console::takes::{Role, Takes};
 use console::usage::{asked, needed, number};
 use row::coding::{code, inverted, plain};
+use screen::say_line;
 use screen::shown::{Bits, FIELD_TITLES, Fields, Value};
-use std::io;
 use wording::refusals;
 
-fn row_line(rt: &HostRuntime, name: &str, row: u32) -> io::Result<()> {
-    println!(rt; "{name:<10}{}  {}", Bits(row), Fields(row))
+fn row_line(rt: &HostRuntime, name: &str, row: u32) {
+    say_line!(rt; "{name:<10}{}  {}", Bits(row), Fields(row));
 }
 
 // The value, its code, behind which stand the titles of the fields that the rows below it have, and the rows.
-fn show(rt: &HostRuntime, value: u16) -> io::Result<()> {
-    println!(rt; "{:<10}{} = {value}", "value", Value(u32::from(value)))?;
-    println!(rt; "{:<10}{}  {FIELD_TITLES}", "code", Bits(code(value)))?;
-    row_line(rt, "plain", plain(value))?;
-    row_line(rt, "inverted", inverted(value))
+fn show(rt: &HostRuntime, value: u16) {
+    say_line!(rt; "{:<10}{} = {value}", "value", Value(u32::from(value)));
+    say_line!(rt; "{:<10}{}  {FIELD_TITLES}", "code", Bits(code(value)));
+    row_line(rt, "plain", plain(value));
+    row_line(rt, "inverted", inverted(value));
 }
 
 pub fn run(rt: &HostRuntime) -> Result<End, Stop>
@@ -27,9 +27,9 @@ pub fn run(rt: &HostRuntime) -> Result<End, Stop>
     let words = asked(rt, Takes::words(Role::Other, Role::Other, 1, 1))?;
     let value = number(rt, needed(rt, words.first)?)?;
     let Ok(value) = u16::try_from(value) else {
-        refusals::because(rt, 4, "ECC value above 65,535")?;
+        refusals::because(rt, 4, "ECC value above 65,535");
         return Ok(End::Answered(4));
     };
-    show(rt, value)?;
+    show(rt, value);
     Ok(End::Answered(0))
 }

@@ -9,13 +9,14 @@ use console::files::load_image;
 use console::takes::{Role, Takes};
 use console::usage::{asked, needed};
 use console::word;
+use screen::{say, say_line};
 
 // Ends the command where an image is none that a reset takes. Its name, "A  rehearsed.img", says which of the two it is where it is not, and the lines of the
 // reset why.
 fn taken(rt: &HostRuntime, name: &str, place: usize, rows: &[u32; 4096]) -> Result<(), Stop> {
-    print!(rt; "{name:<3}")?;
-    word::print(rt, place)?;
-    println!(rt; "")?;
+    say!(rt; "{name:<3}");
+    word::print(rt, place);
+    say_line!(rt; "");
     after_reset(rt, rows)?;
     Ok(())
 }
@@ -32,6 +33,6 @@ pub fn run(rt: &HostRuntime) -> Result<End, Stop>
     load_image(rt, second, &mut b)?;
     taken(rt, "A", first, &a)?;
     taken(rt, "B", second, &b)?;
-    println!(rt; "")?;
-    Ok(differences::show(rt, &a, &b)?)
+    say_line!(rt; "");
+    Ok(differences::show(rt, &a, &b))
 }

@@ -1,11 +1,12 @@
 // Where two images differ: a line for each such row, and a last one that counts them.
-ghost use Rattle.std.specs.Prelude.{◌≡◌, ◌⊎◌, IfOk};
+ghost use Rattle.std.specs.Prelude.{◌≡◌, ◌⊎◌};
 
 use console::ended::End;
 use row::coding::flipped;
 use row::writing::pulses;
 use screen::shown::{Bits, Counted, Row};
-use std::{fmt, io};
+use screen::{say, say_line};
+use std::fmt;
 use wording::ecc;
 
 // The rows that differ; of B the bits that it lacks and has more, and the rows with such bits.
@@ -31,11 +32,11 @@ impl Found {
     }
 }
 
-fn titles(rt: &HostRuntime) -> io::Result<()> {
-    println!(rt;
+fn titles(rt: &HostRuntime) {
+    say_line!(rt;
         "{:<7}{:<10}{:<24}{:<10}{:<24}{:<10}{}",
         "row", "A", "as ECC", "B", "as ECC", "B lacks", "B has more"
-    )
+    );
 }
 
 // Bits, or a dash where there are none, in a column of their own.
@@ -52,27 +53,27 @@ impl fmt::Display for SomeBits {
 }
 
 // A row that differs, with what ECC reads of it, and the bits that B lacks and those that it has more.
-fn row_line(rt: &HostRuntime, row: u32, a: u32, b: u32) -> io::Result<()> {
+fn row_line(rt: &HostRuntime, row: u32, a: u32, b: u32) {
     let lacking = SomeBits(a & flipped(b));
     let more = SomeBits(b & flipped(a));
-    print!(rt; "{}  ", Row(row))?;
-    print!(rt; "{}  {}", Bits(a), ecc::Column(row, a))?;
-    print!(rt; "{}  {}", Bits(b), ecc::Column(row, b))?;
-    println!(rt; "{lacking:<8}  {more}")
+    say!(rt; "{}  ", Row(row));
+    say!(rt; "{}  {}", Bits(a), ecc::Column(row, a));
+    say!(rt; "{}  {}", Bits(b), ecc::Column(row, b));
+    say_line!(rt; "{lacking:<8}  {more}");
 }
 
-fn lines(rt: &HostRuntime, a: &[u32; 4096], b: &[u32; 4096]) -> io::Result<Found> {
+fn lines(rt: &HostRuntime, a: &[u32; 4096], b: &[u32; 4096]) -> Found {
     let mut found = Found::default();
     for (row, (of_a, of_b)) in a.iter().zip(b.iter()).enumerate() {
         if of_a != of_b {
             if found.rows == 0 {
-                titles(rt)?;
+                titles(rt);
             }
-            row_line(rt, row as u32, *of_a, *of_b)?;
+            row_line(rt, row as u32, *of_a, *of_b);
             found.add(*of_a, *of_b);
         }
     }
-    Ok(found)
+    found
 }
 
 // "no bit more", or "2 bits more in 1 row"
@@ -99,12 +100,12 @@ impl fmt::Display for BitsInRows {
 }
 
 // What is to be made of bits of either kind, and how many rows differ.
-fn last_lines(rt: &HostRuntime, found: Found) -> io::Result<()> {
+fn last_lines(rt: &HostRuntime, found: Found) {
     if 0 < found.lacking {
-        println!(rt; "A bit that B lacks can still be burnt.")?;
+        say_line!(rt; "A bit that B lacks can still be burnt.");
     }
     if 0 < found.more {
-        println!(rt; "A bit that B has more is burnt for good.")?;
+        say_line!(rt; "A bit that B has more is burnt for good.");
     }
     let differ = if found.rows == 1 { "differs" } else { "differ" };
     let lacking = BitsInRows {
@@ -117,22 +118,22 @@ fn last_lines(rt: &HostRuntime, found: Found) -> io::Result<()> {
         more: " more",
         rows: found.more_rows,
     };
-    println!(rt;
+    say_line!(rt;
         "{} {differ}: B lacks {lacking} and has {more}",
         Counted(found.rows, "row")
-    )
+    );
 }
 
 // The lines, and how it ended.
-pub(crate) fn show(rt: &HostRuntime, a: &[u32; 4096], b: &[u32; 4096]) -> io::Result<End>
-    ensures { IfOk result (λ end. (end ≡ End.Answered 0) ⊎ (end ≡ End.Different)) }
+pub(crate) fn show(rt: &HostRuntime, a: &[u32; 4096], b: &[u32; 4096]) -> End
+    ensures { (result ≡ End.Answered 0) ⊎ (result ≡ End.Different) }
 {
-    let found = lines(rt, a, b)?;
+    let found = lines(rt, a, b);
     if found.rows == 0 {
-        println!(rt; "the same: no row differs")?;
-        return Ok(End::Answered(0));
+        say_line!(rt; "the same: no row differs");
+        return End::Answered(0);
     }
-    println!(rt; "")?;
-    last_lines(rt, found)?;
-    Ok(End::Different)
+    say_line!(rt; "");
+    last_lines(rt, found);
+    End::Different
 }

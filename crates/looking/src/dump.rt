@@ -19,6 +19,6 @@ pub fn run(rt: &HostRuntime) -> Result<End, Stop>
     };
     let mut rows = [0u32; 4096];
     let state = begin(rt, words, &mut rows)?;
-    dump_lines::show(rt, &rows, state, range)?;
+    dump_lines::show(rt, &rows, state, range);
     finish(rt, words, state, 0)
 }

@@ -16,56 +16,57 @@ use reader::handing::Found;
 use reader::readers::{FIRST_ENTRY, next_entry};
 use row::coding::{inverted, plain};
 use screen::shown::{Bits, Row, Value};
-use std::io;
+use screen::{say, say_line};
 use wording::job_refusals;
 
 // "0x0c0 ecc 320       # 0x0140, plain 0x050140, inverted 0xfafebf", or "0xf87 raw 0x010101 # page 3: Secure level 1, Non-secure level 0, bootloader
 // level 0": what is locked where the row was blank.
-fn entry_line(rt: &HostRuntime, entry: Entry) -> io::Result<()> {
+fn entry_line(rt: &HostRuntime, entry: Entry) {
     let Entry { row, kind, value } = entry;
     // By its number: that is what stands in a job's bytes.
     if kind == 0 {
         let value = (value % 65536) as u16;
-        print!(rt;
+        say!(rt;
             "{} ecc {value:<8}# {}, ",
             Row(row),
             Value(u32::from(value))
-        )?;
-        return println!(rt;
+        );
+        say_line!(rt;
             "plain {}, inverted {}",
             Bits(plain(value)),
             Bits(inverted(value))
         );
+        return;
     }
-    print!(rt; "{} raw {}", Row(row), Bits(value))?;
+    say!(rt; "{} raw {}", Row(row), Bits(value));
     if Page::FIRST_LOCK_ROW <= row {
         let page = lock_rows::page_of(row);
-        print!(rt; " # page {page}: {}", lock_rows::Words(row, value))?;
+        say!(rt; " # page {page}: {}", lock_rows::Words(row, value));
     }
-    println!(rt; "")
+    say_line!(rt; "");
 }
 
 // The reader hands over one entry at a time, to the end of the bytes.
-fn lines(rt: &HostRuntime, job: &[u8]) -> io::Result<()> {
+fn lines(rt: &HostRuntime, job: &[u8]) {
     let mut at = FIRST_ENTRY;
     loop {
         let handed = next_entry(job, at);
         let found = handed.found;
         let Found::Entry(entry) = found else {
-            return Ok(());
+            return;
         };
-        entry_line(rt, entry)?;
+        entry_line(rt, entry);
         at = handed.at;
     }
 }
 
 // A text without the first line gives a job of version 1.
-fn text(rt: &HostRuntime, job: &[u8]) -> io::Result<()> {
+fn text(rt: &HostRuntime, job: &[u8]) {
     if version_of(job) == 2 {
-        println!(rt; "version 2")?;
+        say_line!(rt; "version 2");
     }
-    lines(rt, job)?;
-    println!(rt; "# {}", Entries(count_of(job)))
+    lines(rt, job);
+    say_line!(rt; "# {}", Entries(count_of(job)));
 }
 
 fn of_job(rt: &HostRuntime, job: &[u8]) -> Result<End, Stop>
@@ -73,10 +74,10 @@ fn of_job(rt: &HostRuntime, job: &[u8]) -> Result<End, Stop>
 {
     let number = fault_number(fault_of(job));
     if number != 0 {
-        job_refusals::headline(rt, job, number, 0)?;
+        job_refusals::headline(rt, job, number, 0);
         return Ok(End::Answered(number));
     }
-    text(rt, job)?;
+    text(rt, job);
     Ok(End::Answered(0))
 }
 

@@ -21,6 +21,6 @@ pub fn run(rt: &HostRuntime) -> Result<End, Stop>
     };
     let mut rows = [0u32; 4096];
     let state = begin(rt, words, &mut rows)?;
-    wear_lines::show(rt, &rows, state, range)?;
+    wear_lines::show(rt, &rows, state, range);
     finish(rt, words, state, 0)
 }

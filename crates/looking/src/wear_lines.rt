@@ -6,7 +6,7 @@ use chip::callers::SECURE;
 use chip::slices::row_at;
 use chip::state::State;
 use screen::shown::{Bits, Counted, Row, Value};
-use std::io;
+use screen::{say, say_line};
 use wording::counts::{Count, Kind};
 use wording::{condition, refusals};
 
@@ -23,43 +23,43 @@ fn kind_of(answer: Answer) -> Kind {
 
 // "0x0c1  0x2a0044  0x004c  repaired bit 3, plain", or "0x0c3  0x000003  -       damaged: no value has a code within one bit", where there is wear
 // to see.
-fn line(rt: &HostRuntime, row: u32, bits: u32, answer: Answer) -> io::Result<()> {
+fn line(rt: &HostRuntime, row: u32, bits: u32, answer: Answer) {
     let row = Row(row);
     let bits = Bits(bits);
     match kind_of(answer) {
-        Kind::Clean | Kind::NotPermitted => Ok(()),
+        Kind::Clean | Kind::NotPermitted => {}
         Kind::Repaired | Kind::Worn => {
             let value = Value(answer.value);
-            println!(rt; "{row}  {bits}  {value}  {}", condition::Words(answer))
+            say_line!(rt; "{row}  {bits}  {value}  {}", condition::Words(answer));
         }
         Kind::Damaged => {
             let words = refusals::Words(answer.number);
-            println!(rt; "{row}  {bits}  {:<8}damaged: {words}", "-")
+            say_line!(rt; "{row}  {bits}  {:<8}damaged: {words}", "-");
         }
     }
 }
 
-fn lines(rt: &HostRuntime, rows: &[u32], state: State, range: Range) -> io::Result<Count> {
+fn lines(rt: &HostRuntime, rows: &[u32], state: State, range: Range) -> Count {
     let mut count = Count::default();
     // By its number, which is shown; `row_at` says what stands past the end too.
     for row in range.first..range.past {
         let bits = row_at(rows, row);
         if bits != 0 || !range.held {
             let answer = read_ecc(rows, state, SECURE, row);
-            line(rt, row, bits, answer)?;
+            line(rt, row, bits, answer);
             count.add(kind_of(answer));
         }
     }
-    Ok(count)
+    count
 }
 
 // The last line is "12 rows read, 7 clean, 2 repaired, 2 flag worn, 1 damaged, 0 not permitted".
-pub(crate) fn show(rt: &HostRuntime, rows: &[u32], state: State, range: Range) -> io::Result<()> {
-    println!(rt;
+pub(crate) fn show(rt: &HostRuntime, rows: &[u32], state: State, range: Range) {
+    say_line!(rt;
         "{:<7}{:<10}{:<8}{}",
         "row", "bits", "value", "what is worn"
-    )?;
-    let count = lines(rt, rows, state, range)?;
+    );
+    let count = lines(rt, rows, state, range);
     let Count {
         clean,
         repaired,
@@ -67,9 +67,9 @@ pub(crate) fn show(rt: &HostRuntime, rows: &[u32], state: State, range: Range) -
         damaged,
         not_permitted,
     } = count;
-    print!(rt;
+    say!(rt;
         "\n{} read, {clean} clean, {repaired} repaired, ",
         Counted(count.all(), "row")
-    )?;
-    println!(rt; "{worn} flag worn, {damaged} damaged, {not_permitted} not permitted")
+    );
+    say_line!(rt; "{worn} flag worn, {damaged} damaged, {not_permitted} not permitted");
 }

@@ -5,52 +5,53 @@ use chip::slices::row_at;
 use latch::resetting::all_in_range;
 use row::coding::flipped;
 use screen::shown::{Bits, Counted};
-use std::io;
+use screen::{say, say_line};
 use wording::refusals::{Numbered, OfRow};
 use wording::row_names::After;
 
 // "3: an entry that this call uses is above 16,777,215: the wanted image, row 0x005", and what that says of the image.
-fn too_large(rt: &HostRuntime, present: &[u32], wanted: &[u32]) -> io::Result<()> {
+fn too_large(rt: &HostRuntime, present: &[u32], wanted: &[u32]) {
     let number = Numbered(3);
     if all_in_range(present) {
-        print!(rt; "{number}: the wanted image")?;
-        return entry_lines(rt, wanted);
+        say!(rt; "{number}: the wanted image");
+        entry_lines(rt, wanted);
+        return;
     }
-    print!(rt; "{number}: the present image")?;
-    entry_lines(rt, present)
+    say!(rt; "{number}: the present image");
+    entry_lines(rt, present);
 }
 
 // ", row 0xf87 PAGE3_LOCK1", and below it "   it holds 0x060140, and 0x060040 is wanted".
-fn both(rt: &HostRuntime, row: u32, present: u32, wanted: u32) -> io::Result<()> {
-    println!(rt; "{}{}", OfRow(row), After(1, row))?;
-    print!(rt;
+fn both(rt: &HostRuntime, row: u32, present: u32, wanted: u32) {
+    say_line!(rt; "{}{}", OfRow(row), After(1, row));
+    say!(rt;
         "   it holds {}, and {} is wanted",
         Bits(present),
         Bits(wanted)
-    )
+    );
 }
 
-fn lost(rt: &HostRuntime, first: Found, present: u32, wanted: u32) -> io::Result<()> {
-    print!(rt; "{}", Numbered(13))?;
-    both(rt, first.row, present, wanted)?;
-    println!(rt; ": {} would be lost", Bits(present & flipped(wanted)))?;
-    println!(rt; "   {} would lose bits", Counted(first.rows, "row"))
+fn lost(rt: &HostRuntime, first: Found, present: u32, wanted: u32) {
+    say!(rt; "{}", Numbered(13));
+    both(rt, first.row, present, wanted);
+    say_line!(rt; ": {} would be lost", Bits(present & flipped(wanted)));
+    say_line!(rt; "   {} would lose bits", Counted(first.rows, "row"));
 }
 
-fn kept(rt: &HostRuntime, first: Found, present: u32, wanted: u32) -> io::Result<()> {
-    print!(rt; "{}: from 0xf40 up", Numbered(11))?;
-    both(rt, first.row, present, wanted)?;
+fn kept(rt: &HostRuntime, first: Found, present: u32, wanted: u32) {
+    say!(rt; "{}: from 0xf40 up", Numbered(11));
+    both(rt, first.row, present, wanted);
     let verb = if first.rows == 1 { "differs" } else { "differ" };
-    println!(rt; "\n   {} from 0xf40 up {verb}", Counted(first.rows, "row"))
+    say_line!(rt; "\n   {} from 0xf40 up {verb}", Counted(first.rows, "row"));
 }
 
 // "14: more than 512 rows differ: 513 do"
-fn many(rt: &HostRuntime, rows: u32) -> io::Result<()> {
-    println!(rt; "{}: {rows} do", Numbered(14))
+fn many(rt: &HostRuntime, rows: u32) {
+    say_line!(rt; "{}: {rows} do", Numbered(14));
 }
 
 // An answer has its number alone (the C interface), so the cases go by that.
-fn reason(rt: &HostRuntime, number: u32, present: &[u32], wanted: &[u32]) -> io::Result<()> {
+fn reason(rt: &HostRuntime, number: u32, present: &[u32], wanted: &[u32]) {
     let why = match number {
         3 => return too_large(rt, present, wanted),
         13 => Why::Lost,
@@ -67,12 +68,7 @@ fn reason(rt: &HostRuntime, number: u32, present: &[u32], wanted: &[u32]) -> io:
     }
 }
 
-pub(crate) fn lines(
-    rt: &HostRuntime,
-    number: u32,
-    present: &[u32],
-    wanted: &[u32],
-) -> io::Result<()> {
-    reason(rt, number, present, wanted)?;
-    println!(rt; "no job is written")
+pub(crate) fn lines(rt: &HostRuntime, number: u32, present: &[u32], wanted: &[u32]) {
+    reason(rt, number, present, wanted);
+    say_line!(rt; "no job is written");
 }

@@ -15,14 +15,13 @@ use form::entries::count_of;
 use form::faults::MOST_ENTRIES;
 use maker::making::make_job;
 use screen::shown::Counted;
-use std::io;
 use typed::words::part;
 
 // Room for the longest job, so that an output that is too short is never the reason.
 const ROOM: usize = 7 + 6 * (MOST_ENTRIES as usize);
 
 // "5 entries, 37 bits to burn, written as card.job"
-fn last_line(rt: &HostRuntime, entries: u32, bits: u32, place: usize) -> io::Result<()> {
+fn last_line(rt: &HostRuntime, entries: u32, bits: u32, place: usize) {
     if entries == 0 {
         return written_line(rt, "no entries, for the images are the same", place);
     }
@@ -31,7 +30,7 @@ fn last_line(rt: &HostRuntime, entries: u32, bits: u32, place: usize) -> io::Res
         rt,
         format_args!("{}, {bits} to burn", Entries(entries)),
         place,
-    )
+    );
 }
 
 fn of_images(
@@ -46,13 +45,13 @@ fn of_images(
     let answer = make_job(present, wanted, &mut bytes);
     // By its number: an answer of the library has one, and is no result.
     if answer.number != 0 {
-        against::lines(rt, answer.number, present, wanted)?;
+        against::lines(rt, answer.number, present, wanted);
         return Ok(End::Answered(answer.number));
     }
     // The first bytes of the room: nothing is allocated.
     let job = part(&bytes, 0, answer.value as usize);
     save_bytes(rt, place, job)?;
-    last_line(rt, count_of(job), bits_to_burn(present, wanted), place)?;
+    last_line(rt, count_of(job), bits_to_burn(present, wanted), place);
     Ok(End::Answered(0))
 }
 

@@ -5,7 +5,8 @@ use chip::pages::Page;
 use console::options::Words;
 use console::word;
 use screen::shown::Row;
-use std::{fmt, io};
+use screen::{say, say_line};
+use std::fmt;
 use text::lists::read;
 use wording::refusals::{ListNumbered, OfRow};
 use wording::row_names;
@@ -46,33 +47,28 @@ impl fmt::Display for OutOfPlace<'_> {
 
 // "   it is line 3 of rows.txt", where the list is from a text: that is read again, as far as the row. Its rows are not wanted, and only the first
 // is kept.
-fn text_line(rt: &HostRuntime, words: Words, text: &[u8], place: usize) -> io::Result<()> {
+fn text_line(rt: &HostRuntime, words: Words, text: &[u8], place: usize) {
     let Some(from) = words.rows else {
-        return Ok(());
+        return;
     };
     if 4096 < place {
-        return Ok(());
+        return;
     }
     let mut kept = [0u32; 1];
     let reading = read(text, &mut kept, place as u32 + 1).unwrap_or_else(|wrong| wrong.reading);
-    print!(rt; "   it is line {} of ", reading.line)?;
-    word::print(rt, from)?;
-    println!(rt; "")
+    say!(rt; "   it is line {} of ", reading.line);
+    word::print(rt, from);
+    say_line!(rt; "");
 }
 
-pub(crate) fn lines(
-    rt: &HostRuntime,
-    words: Words,
-    pass: &Pass<'_>,
-    number: u32,
-) -> io::Result<()> {
+pub(crate) fn lines(rt: &HostRuntime, words: Words, pass: &Pass<'_>, number: u32) {
     if number == 11 {
         let list = pass.list;
         let place = first_out(list);
-        println!(rt; "{}{}", ListNumbered(number), OutOfPlace { list, place })?;
-        text_line(rt, words, pass.text, place)?;
+        say_line!(rt; "{}{}", ListNumbered(number), OutOfPlace { list, place });
+        text_line(rt, words, pass.text, place);
     } else {
-        println!(rt; "{}", ListNumbered(number))?;
+        say_line!(rt; "{}", ListNumbered(number));
     }
-    println!(rt; "no row changes")
+    say_line!(rt; "no row changes");
 }

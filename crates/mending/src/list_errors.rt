@@ -4,6 +4,7 @@ ghost use Rattle.console.specs.Ends.{StopsWith};
 
 use console::ended::{End, Stop};
 use console::text_errors::{NO_NUMBER, at};
+use screen::say_line;
 use text::entries::Why;
 use text::reading::Wrong;
 
@@ -20,7 +21,7 @@ pub(crate) fn line<T>(rt: &HostRuntime, place: usize, text: &[u8], wrong: Wrong)
     ensures { IsErrAnd result (StopsWith End.File) }
 {
     let Wrong { reading, word, why } = wrong;
-    at(rt, place, text, reading.line, reading.start, word)?;
-    println!(rt; "{}", reason(why))?;
-    Err(Stop::Ended(End::File))
+    at(rt, place, text, reading.line, reading.start, word);
+    say_line!(rt; "{}", reason(why));
+    Err(Stop(End::File))
 }

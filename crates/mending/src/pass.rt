@@ -36,12 +36,12 @@ impl Pass<'_> {
         let number = outcome.answer.number;
         // By its number: an answer of the library has one, and is no result.
         if number != 0 {
-            against::lines(rt, words, self, number)?;
+            against::lines(rt, words, self, number);
             return finish(rt, words, self.state, number);
         }
         save_asked(rt, words, &after)?;
-        show::rows(rt, self, &after, &report, outcome)?;
-        saved_line(rt, words)?;
+        show::rows(rt, self, &after, &report, outcome);
+        saved_line(rt, words);
         finish(rt, words, self.state, 0)
     }
 }

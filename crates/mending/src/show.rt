@@ -8,7 +8,8 @@ use chip::state::Outcome;
 use decode::reading::read_row;
 use repair::finding::Found;
 use screen::shown::{Bits, Counted, Row, Value};
-use std::{fmt, io};
+use screen::{say, say_line};
+use std::fmt;
 use wording::counts::Count;
 use wording::levels::{Levels, levels_of};
 use wording::{burnt, refusals, row_names};
@@ -76,7 +77,7 @@ impl fmt::Display for Listed {
 }
 
 // A line for each row that is not clean, with the titles before the first. How many there are of each kind.
-fn lines(rt: &HostRuntime, pass: &Pass<'_>, after: &[u32], report: &[u32]) -> io::Result<Count> {
+fn lines(rt: &HostRuntime, pass: &Pass<'_>, after: &[u32], report: &[u32]) -> Count {
     let before = pass.before;
     let mut count = Count::default();
     for (row, entry) in pass.list.iter().zip(report.iter()) {
@@ -84,15 +85,15 @@ fn lines(rt: &HostRuntime, pass: &Pass<'_>, after: &[u32], report: &[u32]) -> io
         let found = found_by(*entry);
         if !matches!(found, Found::Clean) {
             if count.not_clean() == 0 {
-                println!(rt;
+                say_line!(rt;
                     "{:<7}{:<12}{:<10}{}",
                     "row", "old", "new", "what was found"
-                )?;
+                );
             }
             let held = row_at(before, row);
             let left = row_at(after, row);
             let levels = levels_of(pass.state, SECURE, row);
-            println!(rt;
+            say_line!(rt;
                 "{}",
                 Listed {
                     row,
@@ -101,15 +102,15 @@ fn lines(rt: &HostRuntime, pass: &Pass<'_>, after: &[u32], report: &[u32]) -> io
                     left,
                     levels
                 }
-            )?;
+            );
         }
         count.add(kind_of(found));
     }
-    Ok(count)
+    count
 }
 
 // "7 rows looked at, 2 clean, 2 mended, 1 worn, 2 damaged, 0 not permitted, 2 pulses"
-fn last_line(rt: &HostRuntime, count: Count, pulses: u32) -> io::Result<()> {
+fn last_line(rt: &HostRuntime, count: Count, pulses: u32) {
     let Count {
         clean,
         repaired,
@@ -117,12 +118,12 @@ fn last_line(rt: &HostRuntime, count: Count, pulses: u32) -> io::Result<()> {
         damaged,
         not_permitted,
     } = count;
-    print!(rt;
+    say!(rt;
         "{} looked at, {clean} clean, {repaired} mended, ",
         Counted(count.all(), "row")
-    )?;
-    print!(rt; "{worn} worn, {damaged} damaged, {not_permitted} not permitted, ")?;
-    println!(rt; "{}", Counted(pulses, "pulse"))
+    );
+    say!(rt; "{worn} worn, {damaged} damaged, {not_permitted} not permitted, ");
+    say_line!(rt; "{}", Counted(pulses, "pulse"));
 }
 
 // The rows, then what they come to: those after the pass, the report that it left, and what came of it.
@@ -132,16 +133,16 @@ pub(crate) fn rows(
     after: &[u32],
     report: &[u32],
     outcome: Outcome,
-) -> io::Result<()> {
-    println!(rt; "{}\n", refusals::Numbered(0))?;
-    let count = lines(rt, pass, after, report)?;
+) {
+    say_line!(rt; "{}\n", refusals::Numbered(0));
+    let count = lines(rt, pass, after, report);
     if 0 < count.not_clean() {
-        println!(rt; "")?;
+        say_line!(rt; "");
     }
     let left = outcome.state;
-    burnt::gain_lines(rt, pass.state.tallies, left.tallies)?;
+    burnt::gain_lines(rt, pass.state.tallies, left.tallies);
     if count.repaired == 0 {
-        println!(rt; "nothing to mend: no row changes")?;
+        say_line!(rt; "nothing to mend: no row changes");
     }
-    last_line(rt, count, outcome.answer.pulses)
+    last_line(rt, count, outcome.answer.pulses);
 }

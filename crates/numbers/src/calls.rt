@@ -9,12 +9,12 @@ use burn::writes::{write_ecc, write_raw};
 use chip::state::{Outcome, State};
 use latch::resetting::reset;
 use lock::calls::{advance, enter_key, show};
-use std::io;
+use screen::say_line;
 
 impl Board<'_> {
     // What was made by hand since the last call is what a reset must latch. Any other call is made on
     // it.
-    pub fn call(&mut self, name: Option<Name>, line: Said) -> io::Result<()> {
+    pub fn call(&mut self, name: Option<Name>, line: Said) {
         if name == Some(Name::Reset) {
             return self.reset(line);
         }
@@ -42,12 +42,12 @@ impl Board<'_> {
                 self.answered(line, is)
             }
             Some(Name::EnterKey) => self.enter_key(line),
-            _ => println!(self.table.rt; "no such line"),
+            _ => say_line!(self.table.rt; "no such line"),
         }
     }
 
     // A done reset leaves what was made by hand, with the tallies that the rows have. A refused one gives back what came in.
-    fn reset(&mut self, line: Said) -> io::Result<()> {
+    fn reset(&mut self, line: Said) {
         let state = self.state;
         let hand = self.hand;
         let outcome = reset(self.lent(), state);
@@ -55,15 +55,11 @@ impl Board<'_> {
             let must = tallies::with_counted(hand, self.lent());
             return self.changed(line, outcome, must, "latched");
         }
-        self.changed(line, outcome, state, "kept")
+        self.changed(line, outcome, state, "kept");
     }
 
     // Either write. Given the caller, the row and the value.
-    fn write<F: Fn(&mut [u32], State, u32, u32, u32) -> Outcome>(
-        &mut self,
-        line: Said,
-        write: F,
-    ) -> io::Result<()>
+    fn write<F: Fn(&mut [u32], State, u32, u32, u32) -> Outcome>(&mut self, line: Said, write: F)
         requires { F.IsAlwaysCallable write }
     {
         let must = self.must_rows(line);
@@ -77,7 +73,7 @@ impl Board<'_> {
 
     // Given the caller, the domain, the page and the level. Where the line says no level that is left,
     // the state must be exactly as it was.
-    fn advance(&mut self, line: Said) -> io::Result<()> {
+    fn advance(&mut self, line: Said) {
         let [caller, domain, page, level] = line.given;
         let outcome = advance(self.state, caller, domain, page, level);
         match line.left {
@@ -90,7 +86,7 @@ impl Board<'_> {
     }
 
     // Given the caller and the count of bytes. Entered, the prepared bytes must be the prepared words.
-    fn enter_key(&mut self, line: Said) -> io::Result<()> {
+    fn enter_key(&mut self, line: Said) {
         let [caller, count, _, _] = line.given;
         let end = (count as usize).min(self.bytes.len());
         let outcome = enter_key(self.state, caller, &self.bytes[..end]);
@@ -98,6 +94,6 @@ impl Board<'_> {
             let must = states::with_entered(self.state, self.words);
             return self.changed(line, outcome, must, "entered");
         }
-        self.changed(line, outcome, self.state, "kept")
+        self.changed(line, outcome, self.state, "kept");
     }
 }

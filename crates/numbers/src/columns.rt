@@ -1,14 +1,15 @@
 // How the columns of a case are printed: words of the input, and an answer.
 use answer::answers::{Answer, Condition, Polarity};
+use screen::say;
+use screen::saying::said_bytes;
 use screen::shown::Bits;
-use std::io::Write;
-use std::{fmt, io};
+use std::fmt;
 
 // Bytes of the input, and blanks to the end of their column.
-pub fn left(rt: &HostRuntime, words: &[u8], width: usize) -> io::Result<()> {
-    io::writer(rt).write_all(words)?;
+pub fn left(rt: &HostRuntime, words: &[u8], width: usize) {
+    said_bytes(rt, words);
     let blanks = width.saturating_sub(words.len());
-    print!(rt; "{:blanks$}", "")
+    say!(rt; "{:blanks$}", "");
 }
 
 // Number, value, condition and pulses. A mark stands behind the condition of an inverted row.

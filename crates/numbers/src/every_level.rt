@@ -7,7 +7,8 @@ use access::votes::read_vote;
 use burn::writes::{write_ecc, write_raw};
 use chip::state::State;
 use screen::table::Table;
-use std::{fmt, io};
+use screen::{say, say_line};
+use std::fmt;
 
 const PAGE: u32 = 3;
 
@@ -84,7 +85,7 @@ fn letter(state: State, caller: u32) -> u8 {
     }
 }
 
-fn tried(table: &mut Table, name: &str, caller: u32, key: u32, must: Line) -> io::Result<()> {
+fn tried(table: &mut Table, name: &str, caller: u32, key: u32, must: Line) {
     let mut is = [b' '; 30];
     let mut right = 0;
     for levels in 0u32..27 {
@@ -93,20 +94,19 @@ fn tried(table: &mut Table, name: &str, caller: u32, key: u32, must: Line) -> io
         is[at] = letter(state, caller);
         right += u32::from(is[at] == must.0[at]);
     }
-    print!(table.rt; "{name:<12}{key}    {must}  {}", Line(is))?;
-    table.verdict_of_many(right, 27)
+    say!(table.rt; "{name:<12}{key}    {must}  {}", Line(is));
+    table.verdict_of_many(right, 27);
 }
 
-pub fn all(table: &mut Table) -> io::Result<()> {
-    println!(table.rt;
+pub fn all(table: &mut Table) {
+    say_line!(table.rt;
         "\nWho may read and write, by every level: w reads and writes, r reads, - neither
 A group for each Secure level, in it Non-secure levels by bootloader levels
 caller      key  must be                         is"
-    )?;
+    );
     for (caller, (name, lines)) in (0..).zip(NAMES.iter().zip(MUST)) {
         for (key, must) in (0..).zip(lines) {
-            tried(table, name, caller, key, must)?;
+            tried(table, name, caller, key, must);
         }
     }
-    Ok(())
 }

@@ -6,7 +6,7 @@ use answer::answers::{done, refused, told};
 use chip::state::State;
 use lock::calls::{advance, show};
 use screen::table::Table;
-use std::io;
+use screen::{say, say_line};
 
 // A caller, or its domain.
 pub const NAMES: [&str; 3] = ["Secure", "Non-secure", "bootloader"];
@@ -69,9 +69,9 @@ impl Case {
     }
 }
 
-pub fn all(table: &mut Table) -> io::Result<()> {
-    println!(table.rt; "\nEvery advance, from each level to each, and every show")?;
-    println!(table.rt; "caller      domain      advance  as it must be")?;
+pub fn all(table: &mut Table) {
+    say_line!(table.rt; "\nEvery advance, from each level to each, and every show");
+    say_line!(table.rt; "caller      domain      advance  as it must be");
     for (caller, numbers) in NUMBERS.iter().enumerate() {
         for (domain, number) in numbers.iter().enumerate() {
             let case = Case {
@@ -80,12 +80,11 @@ pub fn all(table: &mut Table) -> io::Result<()> {
                 number: *number,
             };
             let right = case.right();
-            print!(table.rt;
+            say!(table.rt;
                 "{:<12}{:<12}{number}{right:9} of 12 ",
                 NAMES[caller], NAMES[domain]
-            )?;
-            table.verdict_of_many(right, 12)?;
+            );
+            table.verdict_of_many(right, 12);
         }
     }
-    Ok(())
 }

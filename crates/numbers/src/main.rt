@@ -18,8 +18,8 @@ mod tallies;
 
 use board::Board;
 use io::read_full;
-use screen::passing::passed_over;
 use screen::table::Table;
+use screen::{say, say_line};
 
 // The number of the file descriptor that a program reads from.
 const STANDARD_INPUT: i32 = 0;
@@ -43,22 +43,21 @@ and state:
 ";
 
 // What is compared: the scenes of the input, and then what no input names.
-fn compared(rt: &HostRuntime, input: &[u8]) -> std::io::Result<()> {
+fn compared(rt: &HostRuntime, input: &[u8]) {
     let mut board = Board::blank(Table::new(rt));
-    board.play(input)?;
+    board.play(input);
     if input.len() == ROOM {
-        println!(rt; "the input may be longer than what was read")?;
+        say_line!(rt; "the input may be longer than what was read");
     }
-    every_lock::all(&mut board.table)?;
-    every_level::all(&mut board.table)?;
-    board.table.last_line()
+    every_lock::all(&mut board.table);
+    every_level::all(&mut board.table);
+    board.table.last_line();
 }
 
-// The input is read whole, also where the legend could not be written.
 fn main(rt: HostRuntime) {
-    passed_over(print!(rt; "{LEGEND}"));
+    say!(&rt; "{LEGEND}");
     let mut input = [0u8; ROOM];
     // With std's read the buffer would be filled by a loop of our own, which is no plainer.
     let count = read_full(STANDARD_INPUT, &mut input);
-    passed_over(compared(&rt, &input[..count]));
+    compared(&rt, &input[..count]);
 }

@@ -5,55 +5,42 @@ use crate::said::{NONE, Said};
 use crate::{states, tallies};
 use answer::answers::Answer;
 use chip::state::{Outcome, State};
-use std::io;
+use screen::say;
 
 impl Board<'_> {
     // The word says what must be left, and "other" stands there where something else is. The place of an answer, always 0 outside
     // jobs, has no column, and is compared all the same.
-    fn finished(&mut self, line: Said, is: Answer, word: &str, as_must: bool) -> io::Result<()> {
+    fn finished(&mut self, line: Said, is: Answer, word: &str, as_must: bool) {
         let must = line.must;
         let left = if as_must { word } else { "other" };
-        print!(self.table.rt; "{}{}{left:<8}", Columns(must), Columns(is))?;
-        self.table.verdict(is == must && as_must)
+        say!(self.table.rt; "{}{}{left:<8}", Columns(must), Columns(is));
+        self.table.verdict(is == must && as_must);
     }
 
     // A call that is lent nothing to change.
-    pub fn answered(&mut self, line: Said, is: Answer) -> io::Result<()> {
-        self.finished(line, is, "-", true)
+    pub fn answered(&mut self, line: Said, is: Answer) {
+        self.finished(line, is, "-", true);
     }
 
     // A call that can change the state, with what it must leave and the word for that.
-    pub fn changed(
-        &mut self,
-        line: Said,
-        outcome: Outcome,
-        must: State,
-        word: &str,
-    ) -> io::Result<()> {
-        self.left(line, outcome, must, word, true)
+    pub fn changed(&mut self, line: Said, outcome: Outcome, must: State, word: &str) {
+        self.left(line, outcome, must, word, true);
     }
 
     // A write: all rows were compared.
-    pub fn written(&mut self, line: Said, outcome: Outcome, same_rows: bool) -> io::Result<()> {
+    pub fn written(&mut self, line: Said, outcome: Outcome, same_rows: bool) {
         if line.must.number == 0 {
             let must = self.must_state(line);
             return self.left(line, outcome, must, "burnt", same_rows);
         }
-        self.left(line, outcome, self.state, "kept", same_rows)
+        self.left(line, outcome, self.state, "kept", same_rows);
     }
 
-    fn left(
-        &mut self,
-        line: Said,
-        outcome: Outcome,
-        must: State,
-        word: &str,
-        same_rows: bool,
-    ) -> io::Result<()> {
+    fn left(&mut self, line: Said, outcome: Outcome, must: State, word: &str, same_rows: bool) {
         let as_must = same_rows && outcome.state == must;
         self.state = must;
         self.hand = must;
-        self.finished(line, outcome.answer, word, as_must)
+        self.finished(line, outcome.answer, word, as_must);
     }
 
     // A done write leaves its row as the line says, and every other row as it was.

@@ -4,7 +4,7 @@ use crate::names::Name;
 use crate::said::{Said, stated};
 use crate::states;
 use chip::state::Key;
-use std::io;
+use screen::say_line;
 
 // The eight words of four numbers, of each number the upper one first.
 fn words(numbers: [u32; 4]) -> [u16; 8] {
@@ -26,7 +26,7 @@ fn bytes(numbers: [u32; 4]) -> [u8; 17] {
 }
 
 impl Board<'_> {
-    pub fn prepare(&mut self, name: Option<Name>, line: Said) -> io::Result<()> {
+    pub fn prepare(&mut self, name: Option<Name>, line: Said) {
         let [first, second, third, fourth] = line.given;
         match name {
             Some(Name::Entries) => self.entries = first,
@@ -52,8 +52,7 @@ impl Board<'_> {
             }
             Some(Name::Entered) => self.hand = states::with_entered(self.hand, self.words),
             Some(Name::Tally) => self.hand = states::with_tally(self.hand, first, second),
-            _ => println!(self.table.rt; "no such line")?,
+            _ => say_line!(self.table.rt; "no such line"),
         }
-        Ok(())
     }
 }

@@ -7,7 +7,8 @@ use access::votes::read_vote;
 use answer::answers::Answer;
 use chip::state::State;
 use screen::shown::{Bits, FIELD_TITLES, Fields, Row, Value};
-use std::{fmt, io};
+use screen::{say, say_line};
+use std::fmt;
 use wording::levels::levels_of;
 use wording::rights::rights_of;
 use wording::{callers, condition, levels, owner, refusals};
@@ -54,11 +55,12 @@ impl fmt::Display for Way {
 }
 
 // The first line of the screen. A vote's count, which 4 is about, is no row's.
-pub(crate) fn headline(rt: &HostRuntime, number: u32, row: u32) -> io::Result<()> {
+pub(crate) fn headline(rt: &HostRuntime, number: u32, row: u32) {
     if number == 4 {
-        return refusals::because(rt, 4, "vote count neither 3 nor 8");
+        refusals::because(rt, 4, "vote count neither 3 nor 8");
+        return;
     }
-    refusals::row(rt, number, row)
+    refusals::row(rt, number, row);
 }
 
 // A read of a row of the chip: who reads it, and how.
@@ -73,7 +75,7 @@ pub(crate) struct Read<'a> {
 }
 
 impl Read<'_> {
-    pub(crate) fn show(&self, rt: &HostRuntime, answer: Answer) -> io::Result<()> {
+    pub(crate) fn show(&self, rt: &HostRuntime, answer: Answer) {
         let Read {
             rows: _,
             state,
@@ -82,17 +84,17 @@ impl Read<'_> {
             way,
         } = *self;
         let about = self.refused_row(answer.number);
-        headline(rt, answer.number, about)?;
+        headline(rt, answer.number, about);
         if answer.number == 7 {
-            levels::of_read(rt, levels_of(state, caller, about), caller)?;
+            levels::of_read(rt, levels_of(state, caller, about), caller);
         }
-        println!(rt; "{:<12}{}{way}{}", "read", Row(row), callers::By(caller))?;
+        say_line!(rt; "{:<12}{}{way}{}", "read", Row(row), callers::By(caller));
         if answer.number == 0 {
-            self.value_lines(rt, answer)?;
+            self.value_lines(rt, answer);
         }
-        println!(rt; "{:<12}row    all       {FIELD_TITLES}", "bits")?;
-        self.bits_lines(rt)?;
-        owner::lines(rt, rights_of(state, about), about)
+        say_line!(rt; "{:<12}row    all       {FIELD_TITLES}", "bits");
+        self.bits_lines(rt);
+        owner::lines(rt, rights_of(state, about), about);
     }
 
     // The number that a row answers by itself, as an answer has it. 5 is for ECC and votes alone.
@@ -109,26 +111,26 @@ impl Read<'_> {
     }
 
     // What was read. Only a read with ECC has a condition, and a value of 16 bits.
-    fn value_lines(&self, rt: &HostRuntime, answer: Answer) -> io::Result<()> {
+    fn value_lines(&self, rt: &HostRuntime, answer: Answer) {
         let value = answer.value;
         if self.way != Way::Ecc {
-            return println!(rt; "{:<12}{} = {value}", "value", Bits(value));
+            say_line!(rt; "{:<12}{} = {value}", "value", Bits(value));
+            return;
         }
-        println!(rt; "{:<12}{} = {value}", "value", Value(value))?;
-        println!(rt; "{:<12}{}", "condition", condition::Words(answer))
+        say_line!(rt; "{:<12}{} = {value}", "value", Value(value));
+        say_line!(rt; "{:<12}{}", "condition", condition::Words(answer));
     }
 
     // The bits of each row that is read, or why they are not shown, as far as there are rows.
-    fn bits_lines(&self, rt: &HostRuntime) -> io::Result<()> {
+    fn bits_lines(&self, rt: &HostRuntime) {
         for row in self.row..(self.row + self.way.span()).min(4096) {
-            print!(rt; "{:<12}{}  ", "", Row(row))?;
+            say!(rt; "{:<12}{}  ", "", Row(row));
             let answer = read_raw(self.rows, self.state, self.caller, row);
             if answer.number == 0 {
-                println!(rt; "{}  {}", Bits(answer.value), Fields(answer.value))?;
+                say_line!(rt; "{}  {}", Bits(answer.value), Fields(answer.value));
             } else {
-                println!(rt; "{}", refusals::Numbered(answer.number))?;
+                say_line!(rt; "{}", refusals::Numbered(answer.number));
             }
         }
-        Ok(())
     }
 }

@@ -10,7 +10,8 @@ use console::takes::{Role, Takes};
 use console::usage::asked;
 use permit::keys::matches;
 use screen::shown::Rows;
-use std::{fmt, io};
+use screen::{say, say_line};
+use std::fmt;
 use wording::burnt;
 
 // Some pages, in the column of the pages: "14-60".
@@ -43,33 +44,33 @@ struct Folded {
 
 impl Folded {
     // A page on a line of its own, which none is folded into yet.
-    fn written(rt: &HostRuntime, page: u32, line: Line) -> io::Result<Folded>
+    fn written(rt: &HostRuntime, page: u32, line: Line) -> Folded
         requires { page < 64 }
     {
         let first = page * Page::ROWS;
-        println!(rt; "{page:>5}  {}  {line}", Rows(first, first + 63))?;
-        Ok(Folded {
+        say_line!(rt; "{page:>5}  {}  {line}", Rows(first, first + 63));
+        Folded {
             line,
             page,
             until: page,
-        })
+        }
     }
 
     // "14-60  as page 13"
-    fn last_line(&self, rt: &HostRuntime) -> io::Result<()> {
+    fn last_line(&self, rt: &HostRuntime) {
         let Folded {
             line: _,
             page,
             until,
         } = *self;
         if until <= page {
-            return Ok(());
+            return;
         }
         let pages = Pages {
             from: page + 1,
             until,
         };
-        println!(rt; "{pages}  as page {page}")
+        say_line!(rt; "{pages}  as page {page}");
     }
 }
 
@@ -80,48 +81,47 @@ fn line_of(state: State, page: u32) -> Line
 }
 
 // A page is folded into the one before it where the two say the same.
-fn lines(rt: &HostRuntime, state: State) -> io::Result<()> {
-    let mut folded = Folded::written(rt, 0, line_of(state, 0))?;
+fn lines(rt: &HostRuntime, state: State) {
+    let mut folded = Folded::written(rt, 0, line_of(state, 0));
     for page in 1..64 {
         let line = line_of(state, page);
         if line == folded.line {
             folded.until = page;
         } else {
-            folded.last_line(rt)?;
-            folded = Folded::written(rt, page, line)?;
+            folded.last_line(rt);
+            folded = Folded::written(rt, page, line);
         }
     }
-    folded.last_line(rt)
+    folded.last_line(rt);
 }
 
 // A valid key: its rows answer nobody.
-fn key_line(rt: &HostRuntime, state: State, key: Key, at: u32) -> io::Result<()>
+fn key_line(rt: &HostRuntime, state: State, key: Key, at: u32)
     requires { at < 6 }
 {
     let first = Page::FIRST_KEY_ROW + 8 * at;
     let number = at + 1;
-    print!(rt;
+    say!(rt;
         "Key {number}, rows {}, is valid: it answers nobody.",
         Rows(first, first + 7)
-    )?;
+    );
     if !key.whole {
-        print!(rt; " It is damaged: none matches it.")?;
+        say!(rt; " It is damaged: none matches it.");
     }
     if matches(state, number) {
-        print!(rt; " It is the key entered.")?;
+        say!(rt; " It is the key entered.");
     }
-    println!(rt; "")
+    say_line!(rt; "");
 }
 
-fn key_lines(rt: &HostRuntime, state: State) -> io::Result<()> {
+fn key_lines(rt: &HostRuntime, state: State) {
     // By its place, which is its number.
     for at in 0..6 {
         let key = state.keys[at];
         if key.valid {
-            key_line(rt, state, key, at as u32)?;
+            key_line(rt, state, key, at as u32);
         }
     }
-    Ok(())
 }
 
 const NOTES: &str = "\
@@ -131,13 +131,13 @@ In a bar # is 192 bits burnt, + fewer, . none: only a full page is ########.
 * A lock row is always read. Writing it goes by the levels of the page it locks,
   and by the keys of page 62 (lock words 0 to 31) or 63 (32 to 63): erratum E28.";
 
-fn show(rt: &HostRuntime, state: State) -> io::Result<()> {
-    println!(rt; "{TITLES}")?;
-    lines(rt, state)?;
-    println!(rt; "")?;
-    burnt::sum_line(rt, state.tallies)?;
-    println!(rt; "\n{NOTES}")?;
-    key_lines(rt, state)
+fn show(rt: &HostRuntime, state: State) {
+    say_line!(rt; "{TITLES}");
+    lines(rt, state);
+    say_line!(rt; "");
+    burnt::sum_line(rt, state.tallies);
+    say_line!(rt; "\n{NOTES}");
+    key_lines(rt, state);
 }
 
 pub fn run(rt: &HostRuntime) -> Result<End, Stop>
@@ -146,6 +146,6 @@ pub fn run(rt: &HostRuntime) -> Result<End, Stop>
     let words = asked(rt, Takes::on_image(Role::Other, 1, 1))?;
     let mut rows = [0u32; 4096];
     let state = begin(rt, words, &mut rows)?;
-    show(rt, state)?;
+    show(rt, state);
     finish(rt, words, state, 0)
 }

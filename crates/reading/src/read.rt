@@ -12,7 +12,6 @@ use console::options::Words;
 use console::takes::{Role, Takes};
 use console::usage::asked;
 use console::{usage, word};
-use std::io;
 
 // The way that the options ask for.
 fn way_asked(rt: &HostRuntime, words: Words) -> Result<Way, Stop> {
@@ -68,13 +67,13 @@ fn answered(
     caller: u32,
     row: u32,
     way: Way,
-) -> io::Result<u32>
-    ensures { IfOk result (λ number. number ≡ (read_by way rows.now state caller row).number) }
+) -> u32
+    ensures { result ≡ (read_by way rows.now state caller row).number }
 {
     let answer = way.read(rows, state, caller, row);
     if Page::LAST_ROW < row {
-        headline(rt, answer.number, row)?;
-        return Ok(answer.number);
+        headline(rt, answer.number, row);
+        return answer.number;
     }
     let read = Read {
         rows,
@@ -83,8 +82,8 @@ fn answered(
         row,
         way,
     };
-    read.show(rt, answer)?;
-    Ok(answer.number)
+    read.show(rt, answer);
+    answer.number
 }
 
 pub fn run(rt: &HostRuntime) -> Result<End, Stop>
@@ -96,6 +95,6 @@ pub fn run(rt: &HostRuntime) -> Result<End, Stop>
     let way = way_asked(rt, words)?;
     let mut rows = [0u32; 4096];
     let state = begin(rt, words, &mut rows)?;
-    let number = answered(rt, &rows, state, caller, row, way)?;
+    let number = answered(rt, &rows, state, caller, row, way);
     finish(rt, words, state, number)
 }

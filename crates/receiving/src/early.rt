@@ -2,7 +2,7 @@
 use form::entries::count_of;
 use form::faults::Fault;
 use lead::notes::Note;
-use screen::passing::passed_over;
+use screen::say_line;
 use wording::job_refusals;
 
 // So many faults are said, and no more: one byte that is lost on the way can spoil every entry behind it.
@@ -24,10 +24,10 @@ pub(crate) fn say(rt: &HostRuntime, area: &[u8], before: Note, fault: Fault, sai
     if MOST_SAID < said || known(area, before, fault, said) {
         return said;
     }
-    passed_over(if said < MOST_SAID {
-        job_refusals::early(rt, area, fault)
+    if said < MOST_SAID {
+        job_refusals::early(rt, area, fault);
     } else {
-        println!(rt; "early: further faults are not said")
-    });
+        say_line!(rt; "early: further faults are not said");
+    }
     said + 1
 }

@@ -9,8 +9,9 @@ use console::ended::{End, Stop};
 use console::options::Words;
 use console::saving::{save_asked, saved_line};
 use form::entries::count_of;
+use screen::say_line;
 use screen::shown::Counted;
-use std::{fmt, io};
+use std::fmt;
 use wording::{burnt, refusals};
 
 // A job that was run on a copy of an image: the rows before and after it, the state before it, the limit of pulses if there was one, and what
@@ -46,28 +47,28 @@ impl Trial<'_> {
         let answer = self.outcome.answer;
         // By its number: an answer of the library has one, and is no result.
         if answer.number != 0 {
-            against::lines(rt, self)?;
+            against::lines(rt, self);
             return finish(rt, words, self.state, answer.number);
         }
         save_asked(rt, words, self.after)?;
-        self.changed(rt)?;
+        self.changed(rt);
         let left = self.outcome.state;
-        burnt::gain_lines(rt, self.state.tallies, left.tallies)?;
-        self.summary(rt)?;
-        saved_line(rt, words)?;
+        burnt::gain_lines(rt, self.state.tallies, left.tallies);
+        self.summary(rt);
+        saved_line(rt, words);
         finish(rt, words, self.state, 0)
     }
 
-    fn changed(&self, rt: &HostRuntime) -> io::Result<()> {
-        self.headline(rt)?;
+    fn changed(&self, rt: &HostRuntime) {
+        self.headline(rt);
         if count_of(self.job) == 0 {
-            println!(rt; "\nno row changes\n")?;
+            say_line!(rt; "\nno row changes\n");
         } else {
-            println!(rt; "\nrow    old         new       pulses  kind  value")?;
-            changes::lines(rt, self)?;
-            println!(rt; "")?;
+            say_line!(rt; "\nrow    old         new       pulses  kind  value");
+            changes::lines(rt, self);
+            say_line!(rt; "");
         }
-        locks::show(rt, self)
+        locks::show(rt, self);
     }
 
     fn standing(&self) -> Standing {
@@ -78,11 +79,12 @@ impl Trial<'_> {
     }
 
     // The first line decides what a person does next, so it says where the limit cut the job.
-    fn headline(&self, rt: &HostRuntime) -> io::Result<()> {
+    fn headline(&self, rt: &HostRuntime) {
         let answer = self.outcome.answer;
         let standing = self.standing();
         if standing.place == standing.count {
-            return println!(rt; "{}", refusals::Numbered(0));
+            say_line!(rt; "{}", refusals::Numbered(0));
+            return;
         }
         let pulses = Counted(answer.pulses, "pulse");
         let among = if Parts::of(self.before, self.job).begun(answer) {
@@ -90,16 +92,16 @@ impl Trial<'_> {
         } else {
             ""
         };
-        println!(rt; "0: cut after {pulses}{among}: {standing}")
+        say_line!(rt; "0: cut after {pulses}{among}: {standing}");
     }
 
     // "2 of 3 entries stand, 8 pulses, limit 8"
-    fn summary(&self, rt: &HostRuntime) -> io::Result<()> {
+    fn summary(&self, rt: &HostRuntime) {
         let standing = self.standing();
         let pulses = Counted(self.outcome.answer.pulses, "pulse");
         match self.limit {
-            Some(limit) => println!(rt; "{standing}, {pulses}, limit {limit}"),
-            None => println!(rt; "{standing}, {pulses}, no limit"),
+            Some(limit) => say_line!(rt; "{standing}, {pulses}, limit {limit}"),
+            None => say_line!(rt; "{standing}, {pulses}, no limit"),
         }
     }
 }

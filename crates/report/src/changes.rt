@@ -6,8 +6,9 @@ use decode::reading::read_row;
 use form::entries::{Entry, count_of, entry_at};
 use judge::verdicts::entry_burnt;
 use row::writing::pulses;
+use screen::say_line;
 use screen::shown::{Bits, Row, Value};
-use std::{fmt, io};
+use std::fmt;
 
 // An entry, and the old and the new bits of its row: "0x0c0  0x000000 -> 0x230001  +4      ECC   0x0001". Behind that stands which polarity an
 // ECC entry takes, as reading its row would say, and what there was or is left to burn.
@@ -52,13 +53,12 @@ impl fmt::Display for Change {
 }
 
 // A line for each entry.
-pub(crate) fn lines(rt: &HostRuntime, trial: &Trial<'_>) -> io::Result<()> {
+pub(crate) fn lines(rt: &HostRuntime, trial: &Trial<'_>) {
     let after = trial.after;
     for place in 0..count_of(trial.job) {
         let entry = entry_at(trial.job, place);
         let old = row_at(trial.before, entry.row);
         let new = row_at(after, entry.row);
-        println!(rt; "{}", Change { entry, old, new })?;
+        say_line!(rt; "{}", Change { entry, old, new });
     }
-    Ok(())
 }

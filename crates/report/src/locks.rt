@@ -6,8 +6,8 @@ use chip::pages::Page;
 use chip::slices::row_at;
 use form::entries::{count_of, entry_at};
 use judge::verdicts::entry_burnt;
+use screen::say_line;
 use screen::shown::{Counted, Row};
-use std::io;
 
 // The two parts of a job: how many entries come before its locks, the pulses of these, and the pulses of its locks.
 #[derive(Clone, Copy, Default)]
@@ -41,59 +41,60 @@ impl Parts {
 }
 
 // "0xf87  3     Secure level 0, Non-secure level 1, bootloader level 0"
-fn lines(rt: &HostRuntime, trial: &Trial<'_>, first: u32) -> io::Result<()> {
+fn lines(rt: &HostRuntime, trial: &Trial<'_>, first: u32) {
     let after = trial.after;
     for place in first..count_of(trial.job) {
         let row = entry_at(trial.job, place).row;
         let page = lock_rows::page_of(row);
         let words = lock_rows::Words(row, row_at(after, row));
-        println!(rt; "{}  {page:<6}{words}", Row(row))?;
+        say_line!(rt; "{}  {page:<6}{words}", Row(row));
     }
-    Ok(())
 }
 
 // Where the locks begin.
-fn beginning(rt: &HostRuntime, parts: Parts) -> io::Result<()> {
+fn beginning(rt: &HostRuntime, parts: Parts) {
     if parts.locks == 0 {
-        return println!(rt; "The locks stand already.");
+        say_line!(rt; "The locks stand already.");
+        return;
     }
     let pulses = Counted(parts.data, "pulse");
-    println!(rt;
+    say_line!(rt;
         "The locks begin at entry {}, after {pulses}.",
         parts.entries
-    )
+    );
 }
 
 // What is promised of a job that is cut, and of this one where it was.
-fn cut(rt: &HostRuntime, parts: Parts, answer: Answer, whole: bool) -> io::Result<()> {
+fn cut(rt: &HostRuntime, parts: Parts, answer: Answer, whole: bool) {
     if whole {
         if 0 < parts.locks {
-            println!(rt;
+            say_line!(rt;
                 "Cut after that, the job may be refused with 7 from then on; its data rows stand."
-            )?;
+            );
         }
-        return Ok(());
+        return;
     }
     if parts.begun(answer) {
-        return println!(rt;
+        say_line!(rt;
             "Cut after the first lock pulse: the job may be refused with 7 from now on; its data rows stand."
         );
+        return;
     }
-    println!(rt; "Cut before the first lock pulse: the job can be run again.")
+    say_line!(rt; "Cut before the first lock pulse: the job can be run again.");
 }
 
 // A job without lock rows has nothing of this on its screen.
-pub(crate) fn show(rt: &HostRuntime, trial: &Trial<'_>) -> io::Result<()> {
+pub(crate) fn show(rt: &HostRuntime, trial: &Trial<'_>) {
     let answer = trial.outcome.answer;
     let parts = Parts::of(trial.before, trial.job);
     let count = count_of(trial.job);
     if count <= parts.entries {
-        return Ok(());
+        return;
     }
-    println!(rt; "lock   page  what the next reset latches")?;
-    lines(rt, trial, parts.entries)?;
-    println!(rt; "")?;
-    beginning(rt, parts)?;
-    cut(rt, parts, answer, answer.place == count)?;
-    println!(rt; "")
+    say_line!(rt; "lock   page  what the next reset latches");
+    lines(rt, trial, parts.entries);
+    say_line!(rt; "");
+    beginning(rt, parts);
+    cut(rt, parts, answer, answer.place == count);
+    say_line!(rt; "");
 }

@@ -1,7 +1,7 @@
-// What the programs share: how rows and bits are shown, how a table counts what it compares, and what becomes of a write that fails.
+// What the programs share: how rows and bits are shown, how a table counts what it compares, what a program says.
 #![tactic(auto)]
 
-pub mod passing;
+pub mod saying;
 pub mod shown;
 pub mod table;
 pub mod tally;

@@ -1,5 +1,13 @@
 // How rows, values and bits are shown: each is a type that says how it is written.
-use std::fmt;
+use std::{fmt, str};
+
+// A number in hexadecimal, with zeros up to a width. All its digits are one piece, since each piece is written by itself.
+fn hexadecimal<W: fmt::Write>(f: &mut fmt::Formatter<W>, number: u32, width: usize) -> fmt::Result {
+    let mut digits = [0u8; 16];
+    let n = io::hex(u64::from(number), width, &mut digits);
+    f.write_str("0x")?;
+    f.write_str(str::from_utf8(&digits[..n]).unwrap_or(""))
+}
 
 // The number of a row, as the datasheet has it: "0x0c0".
 #[derive(Clone, Copy)]
@@ -7,7 +15,7 @@ pub struct Row(pub u32);
 
 impl fmt::Display for Row {
     fn fmt<W: fmt::Write>(&self, f: &mut fmt::Formatter<W>) -> fmt::Result {
-        write!(f, "{:#05x}", self.0)
+        hexadecimal(f, self.0, 3)
     }
 }
 
@@ -27,7 +35,7 @@ pub struct Value(pub u32);
 
 impl fmt::Display for Value {
     fn fmt<W: fmt::Write>(&self, f: &mut fmt::Formatter<W>) -> fmt::Result {
-        write!(f, "{:#06x}", self.0)
+        hexadecimal(f, self.0, 4)
     }
 }
 
@@ -37,7 +45,7 @@ pub struct Bits(pub u32);
 
 impl fmt::Display for Bits {
     fn fmt<W: fmt::Write>(&self, f: &mut fmt::Formatter<W>) -> fmt::Result {
-        write!(f, "{:#08x}", self.0)
+        hexadecimal(f, self.0, 6)
     }
 }
 

@@ -2,8 +2,9 @@
 ghost use Rattle.std.specs.Prelude.{◌≡◌};
 ghost use Rattle.screen.specs.Tallies as spec;
 
+use crate::say_line;
 use crate::tally::Tally;
-use std::{fmt, io};
+use std::fmt;
 
 // Where the lines go, and what was compared so far.
 #[derive(Drop)]
@@ -24,24 +25,24 @@ impl Table<'_> {
     }
 
     // The end of a line that compares one answer.
-    pub fn verdict(&mut self, right: bool) -> io::Result<()>
+    pub fn verdict(&mut self, right: bool)
         ensures { self.new.tally ≡ spec.compared self.old.tally right }
     {
         self.tally = self.tally.compared(right);
-        println!(self.rt; "{}", Verdict(right))
+        say_line!(self.rt; "{}", Verdict(right));
     }
 
     // The end of a line that compares several, of which so many are right.
-    pub fn verdict_of_many(&mut self, right: u32, of: u32) -> io::Result<()>
+    pub fn verdict_of_many(&mut self, right: u32, of: u32)
         ensures { self.new.tally ≡ spec.compared_many self.old.tally right of }
     {
         self.tally = self.tally.compared_many(right, of);
-        println!(self.rt; "{}", Verdict(right == of))
+        say_line!(self.rt; "{}", Verdict(right == of));
     }
 
     // How many were compared, and how many of them differ.
-    pub fn last_line(&self) -> io::Result<()> {
-        println!(self.rt; "\n{}", self.tally)
+    pub fn last_line(&self) {
+        say_line!(self.rt; "\n{}", self.tally);
     }
 }
 

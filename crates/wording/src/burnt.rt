@@ -3,8 +3,9 @@ ghost use Rattle.std.specs.Prelude.{◌<◌, length};
 
 use chip::state::Tallies;
 use chip::tallies::FULL_PAGE;
+use screen::say_line;
 use screen::shown::Counted;
-use std::{fmt, io};
+use std::fmt;
 
 // The bits of all 64 pages.
 const FULL_CHIP: u32 = 64 * FULL_PAGE;
@@ -35,18 +36,17 @@ fn in_all(tallies: &[u16]) -> u32
 }
 
 // "burnt in all: 88 of 98304 bits"
-pub fn sum_line(rt: &HostRuntime, tallies: Tallies) -> io::Result<()> {
+pub fn sum_line(rt: &HostRuntime, tallies: Tallies) {
     let burnt = in_all(&tallies);
-    println!(rt; "burnt in all: {burnt} of {FULL_CHIP} bits")
+    say_line!(rt; "burnt in all: {burnt} of {FULL_CHIP} bits");
 }
 
 // A line for each page that gained bits: "page 3: 28 bits more, 28 of 1536 burnt".
-pub fn gain_lines(rt: &HostRuntime, before: Tallies, after: Tallies) -> io::Result<()> {
+pub fn gain_lines(rt: &HostRuntime, before: Tallies, after: Tallies) {
     for (page, (old, new)) in before.iter().zip(after.iter()).enumerate() {
         if old < new {
             let gained = Counted(u32::from(*new - *old), "bit");
-            println!(rt; "page {page}: {gained} more, {new} of {FULL_PAGE} burnt")?;
+            say_line!(rt; "page {page}: {gained} more, {new} of {FULL_PAGE} burnt");
         }
     }
-    Ok(())
 }

@@ -2,8 +2,9 @@
 use crate::refusals::{Numbered, OfRow};
 use form::entries::entry_at;
 use form::faults::{Fault, fault_of};
+use screen::say_line;
 use screen::shown::Row;
-use std::{fmt, io};
+use std::fmt;
 
 // ", entry 2, row 0x0c3"
 #[derive(Clone, Copy)]
@@ -65,22 +66,22 @@ impl fmt::Display for Reason<'_> {
     }
 }
 
-pub fn headline(rt: &HostRuntime, job: &[u8], number: u32, place: u32) -> io::Result<()> {
+pub fn headline(rt: &HostRuntime, job: &[u8], number: u32, place: u32) {
     let judged = fault_of(job);
-    println!(rt; "{}{}", Numbered(number), Reason { job, judged, place })
+    say_line!(rt; "{}{}", Numbered(number), Reason { job, judged, place });
 }
 
 // What is wrong with a job that is still coming: "early: 10: job bytes malformed: kind above 1, entry 1, row 0x0c4". The script ./otp knows
 // such a line by its first word, and shows it at once.
-pub fn early(rt: &HostRuntime, job: &[u8], fault: Fault) -> io::Result<()> {
+pub fn early(rt: &HostRuntime, job: &[u8], fault: Fault) {
     let number = Numbered(fault.refusal().number());
     let judged = Err(fault);
-    println!(rt;
+    say_line!(rt;
         "early: {number}{}",
         Reason {
             job,
             judged,
             place: 0
         }
-    )
+    );
 }

@@ -7,7 +7,8 @@ use chip::callers::{BOOTLOADER, SECURE};
 use chip::pages::Page;
 use chip::state::State;
 use permit::permission::{caller_level, row_key_level};
-use std::{fmt, io};
+use screen::{say, say_line};
+use std::fmt;
 
 // The levels of a row's page: the caller's own, Secure's, and the key level.
 #[derive(Clone, Copy, Debug, PartialEq, Eq)]
@@ -69,26 +70,26 @@ impl fmt::Display for OfLockRow {
     }
 }
 
-pub fn of_read(rt: &HostRuntime, levels: Levels, caller: u32) -> io::Result<()> {
+pub fn of_read(rt: &HostRuntime, levels: Levels, caller: u32) {
     let all = if caller == BOOTLOADER { "all" } else { "both" };
-    println!(rt;
+    say_line!(rt;
         "{}, and a read needs {all} at most 1",
         OfPage { levels, caller }
-    )
+    );
 }
 
 // A job's entries are written by Secure.
-pub fn of_entry(rt: &HostRuntime, levels: Levels, row: u32) -> io::Result<()> {
+pub fn of_entry(rt: &HostRuntime, levels: Levels, row: u32) {
     if Page::FIRST_LOCK_ROW <= row {
-        print!(rt; "{}", OfLockRow { levels, row })?;
+        say!(rt; "{}", OfLockRow { levels, row });
     } else {
-        print!(rt;
+        say!(rt;
             "{}",
             OfPage {
                 levels,
                 caller: SECURE
             }
-        )?;
+        );
     }
-    println!(rt; ", and a write needs both at 0")
+    say_line!(rt; ", and a write needs both at 0");
 }

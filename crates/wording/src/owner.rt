@@ -2,8 +2,9 @@
 // (document 01, "Locks", "Keys", "Permission").
 use crate::rights::{May, Rights};
 use chip::pages::Page;
+use screen::say_line;
 use screen::shown::Rows;
-use std::{fmt, io};
+use std::fmt;
 
 // The page whose levels a row goes by and, of a row of a lock word or a key, which of its rows it is. A lock row belongs to the page that it
 // locks. The rows of the keys go from 0xf48 to 0xf77, and those from 0xf79 to 0xf7e are their valid flags.
@@ -27,28 +28,28 @@ impl fmt::Display for Owner {
     }
 }
 
-fn may_line(rt: &HostRuntime, caller: &str, may: May) -> io::Result<()> {
-    println!(rt; "{caller:<12}{may}")
+fn may_line(rt: &HostRuntime, caller: &str, may: May) {
+    say_line!(rt; "{caller:<12}{may}");
 }
 
 // The lines of a row of the chip, and none of a row that it does not have. Of a lock row the key settings that count are not those of the page
 // that it locks.
-pub fn lines(rt: &HostRuntime, rights: Rights, row: u32) -> io::Result<()> {
+pub fn lines(rt: &HostRuntime, rights: Rights, row: u32) {
     if Page::LAST_ROW < row {
-        return Ok(());
+        return;
     }
     let page = row / Page::ROWS;
     let first = page * Page::ROWS;
-    println!(rt; "{:<12}{page}, rows {}", "page", Rows(first, first + 63))?;
-    println!(rt; "{:<12}{}", "owner", Owner(row))?;
+    say_line!(rt; "{:<12}{page}, rows {}", "page", Rows(first, first + 63));
+    say_line!(rt; "{:<12}{}", "owner", Owner(row));
     if Page::FIRST_LOCK_ROW <= row {
         let keys = Page::key_page(row).number;
-        println!(rt;
+        say_line!(rt;
             "{:<12}the key settings of page {keys} count (erratum E28)",
             "keys"
-        )?;
+        );
     }
-    may_line(rt, "Secure", rights.secure)?;
-    may_line(rt, "Non-secure", rights.nonsecure)?;
-    may_line(rt, "Bootloader", rights.bootloader)
+    may_line(rt, "Secure", rights.secure);
+    may_line(rt, "Non-secure", rights.nonsecure);
+    may_line(rt, "Bootloader", rights.bootloader);
 }

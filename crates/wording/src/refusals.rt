@@ -1,6 +1,7 @@
 // The answers as number and words: by its number, as a call answers it, C too.
+use screen::say_line;
 use screen::shown::Row;
-use std::{fmt, io};
+use std::fmt;
 
 // The words of a number: the one table of them (document 01, "The numbers we answer with"). What a number that stands for several things
 // means here is said behind it.
@@ -64,14 +65,15 @@ impl fmt::Display for OfRow {
 }
 
 // "4: a number that this call does not take: vote count neither 3 nor 8"
-pub fn because(rt: &HostRuntime, number: u32, reason: &str) -> io::Result<()> {
-    println!(rt; "{}: {reason}", Numbered(number))
+pub fn because(rt: &HostRuntime, number: u32, reason: &str) {
+    say_line!(rt; "{}: {reason}", Numbered(number));
 }
 
 // An answer on one row.
-pub fn row(rt: &HostRuntime, number: u32, row: u32) -> io::Result<()> {
+pub fn row(rt: &HostRuntime, number: u32, row: u32) {
     if number == 0 {
-        return println!(rt; "{}", Numbered(number));
+        say_line!(rt; "{}", Numbered(number));
+        return;
     }
-    println!(rt; "{}{}", Numbered(number), OfRow(row))
+    say_line!(rt; "{}{}", Numbered(number), OfRow(row));
 }

@@ -2,7 +2,6 @@
 // are the bits still missing.
 use crate::table::{Table, headings};
 use crate::write_lines::{Left, ecc_line};
-use std::io;
 
 // A row between the old one and the burnt one, and the pulses that it still takes.
 type Between = (u32, u32);
@@ -52,19 +51,18 @@ const TO_INVERTED: [Between; 20] = [
     (0xdcfffe, 0),
 ];
 
-fn lines(table: &mut Table, fits: &str, burnt: u32, rows: &[Between]) -> io::Result<()> {
+fn lines(table: &mut Table, fits: &str, burnt: u32, rows: &[Between]) {
     for &(row, missing) in rows {
-        ecc_line(table, fits, 1, row, Left(0, burnt, missing))?;
+        ecc_line(table, fits, 1, row, Left(0, burnt, missing));
     }
-    Ok(())
 }
 
-pub fn run(table: &mut Table) -> io::Result<()> {
+pub fn run(table: &mut Table) {
     headings(
         table,
         "Writing 1 again over the rows between the old one and the burnt one",
         "fits      what                        must be                     is",
-    )?;
-    lines(table, "plain", 0x230001, &TO_PLAIN)?;
-    lines(table, "inverted", 0xdcfffe, &TO_INVERTED)
+    );
+    lines(table, "plain", 0x230001, &TO_PLAIN);
+    lines(table, "inverted", 0xdcfffe, &TO_INVERTED);
 }

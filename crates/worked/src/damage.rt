@@ -9,8 +9,8 @@ use crate::read_lines::{reads, refused, repaired, worn, worn_and_repaired};
 use crate::samples::{SAMPLES, Sample};
 use crate::table::{Share, Table, headings};
 use answer::answers::{Answer, Polarity};
+use screen::say;
 use screen::shown::Value;
-use std::io;
 
 // Bits 23 and 22, which tell the polarity.
 const FLAGS: [u32; 2] = [0x400000, 0x800000];
@@ -41,7 +41,7 @@ fn flags(row: u32, must: Answer) -> u32
     u32::from(reads(row ^ low, must)) + u32::from(reads(row ^ high, must))
 }
 
-fn damage_line(table: &mut Table, sample: Sample) -> io::Result<()> {
+fn damage_line(table: &mut Table, sample: Sample) {
     let Sample(value_of_16, plain, inverted) = sample;
     let value = u32::from(value_of_16);
     let [low, high] = FLAGS;
@@ -50,7 +50,7 @@ fn damage_line(table: &mut Table, sample: Sample) -> io::Result<()> {
     let both = worn_places(plain ^ low, value) + worn_places(plain ^ high, value);
     let turned = repaired_places(inverted, value, Polarity::Inverted);
     let flag_refused = flags(inverted, refused(8));
-    print!(table.rt;
+    say!(table.rt;
         "{}   plain {}, {}, {}   inverted {}, {}   ",
         Value(value),
         Share(upright, 22, "repaired"),
@@ -58,19 +58,18 @@ fn damage_line(table: &mut Table, sample: Sample) -> io::Result<()> {
         Share(both, 44, "both"),
         Share(turned, 22, "repaired"),
         Share(flag_refused, 2, "refused")
-    )?;
-    table.verdict_of_many(upright + flag_worn + both + turned + flag_refused, 92)
+    );
+    table.verdict_of_many(upright + flag_worn + both + turned + flag_refused, 92);
 }
 
 // As in the file of the codes.
-pub fn run(table: &mut Table) -> io::Result<()> {
+pub fn run(table: &mut Table) {
     headings(
         table,
         "Every one-bit damage: bits 21:0, bits 23:22, and of the plain row one of both",
         "value    of the plain row                                      of the inverted row",
-    )?;
+    );
     for sample in SAMPLES {
-        damage_line(table, sample)?;
+        damage_line(table, sample);
     }
-    Ok(())
 }

@@ -6,8 +6,8 @@ use crate::places::places;
 use crate::read_lines::{reads, refused};
 use crate::samples::Sample;
 use crate::table::{Share, Table, headings};
+use screen::say;
 use screen::shown::Value;
-use std::io;
 
 const DOUBLY_DAMAGED: [Sample; 4] = [
     Sample(0x0000, 0x000000, 0xffffff),
@@ -34,28 +34,27 @@ fn refused_pairs(row: u32) -> u32
     right
 }
 
-fn pairs_line(table: &mut Table, sample: Sample) -> io::Result<()> {
+fn pairs_line(table: &mut Table, sample: Sample) {
     let Sample(value, plain_row, inverted_row) = sample;
     let of_plain = refused_pairs(plain_row);
     let of_inverted = refused_pairs(inverted_row);
-    print!(table.rt;
+    say!(table.rt;
         "{}   plain {}   inverted {}   ",
         Value(u32::from(value)),
         Share(of_plain, 231, "refused"),
         Share(of_inverted, 231, "refused")
-    )?;
-    table.verdict_of_many(of_plain + of_inverted, 462)
+    );
+    table.verdict_of_many(of_plain + of_inverted, 462);
 }
 
 // As in the file of the codes.
-pub fn run(table: &mut Table) -> io::Result<()> {
+pub fn run(table: &mut Table) {
     headings(
         table,
         "Every two-bit damage of bits 21:0",
         "value    of the plain row           of the inverted row",
-    )?;
+    );
     for sample in DOUBLY_DAMAGED {
-        pairs_line(table, sample)?;
+        pairs_line(table, sample);
     }
-    Ok(())
 }

@@ -3,7 +3,8 @@ use crate::table::Table;
 use answer::answers::Answer;
 use chip::state::State;
 use latch::resetting::reset;
-use std::{fmt, io};
+use screen::say;
+use std::fmt;
 
 // All rows of a chip.
 pub type Board = [u32; 4096];
@@ -32,25 +33,14 @@ impl fmt::Display for Told {
 }
 
 // A job by its name, what must be answered, what is, and whether that and the rows are right.
-pub fn job_line(
-    table: &mut Table,
-    name: &str,
-    answer: Answer,
-    must: Told,
-    rows_right: bool,
-) -> io::Result<()> {
-    print!(table.rt; "{name:<30}")?;
-    answer_line(table, answer, must, rows_right)
+pub fn job_line(table: &mut Table, name: &str, answer: Answer, must: Told, rows_right: bool) {
+    say!(table.rt; "{name:<30}");
+    answer_line(table, answer, must, rows_right);
 }
 
 // The same, where the name stands already.
-pub fn answer_line(
-    table: &mut Table,
-    answer: Answer,
-    must: Told,
-    rows_right: bool,
-) -> io::Result<()> {
+pub fn answer_line(table: &mut Table, answer: Answer, must: Told, rows_right: bool) {
     let is = Told::from(answer);
-    print!(table.rt; "{must}   {is}   ")?;
-    table.verdict(is == must && rows_right)
+    say!(table.rt; "{must}   {is}   ");
+    table.verdict(is == must && rows_right);
 }

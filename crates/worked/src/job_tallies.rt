@@ -3,7 +3,8 @@ use crate::job_lines::ready;
 use crate::table::{Table, headings};
 use chip::state::Tallies;
 use job::jobs::rehearse;
-use std::{fmt, io};
+use screen::say;
+use std::fmt;
 
 // Raw entries: row 0x0c0 gets 3 bits and row 0x0ff 4, both on page 3, row 0x100 one bit, on page 4, and row 0x240 eight, on page 9.
 const JOB: [u8; 31] = [
@@ -58,29 +59,28 @@ impl fmt::Display for Columns {
 }
 
 // A rehearsal of blank rows: the limit, the tallies before it, what they must be after it, and what they are.
-fn cut_line(table: &mut Table, limit: u32, before: Tallies, must: Tallies) -> io::Result<()> {
+fn cut_line(table: &mut Table, limit: u32, before: Tallies, must: Tallies) {
     let mut rows = [0u32; 4096];
     let mut state = ready(&rows);
     state.tallies = before;
     let after = rehearse(&mut rows, state, &JOB, limit).state;
     let are = after.tallies;
-    print!(table.rt;
+    say!(table.rt;
         "{limit:5}{}{}{}   ",
         Columns(before),
         Columns(must),
         Columns(are)
-    )?;
-    table.verdict(are == must)
+    );
+    table.verdict(are == must);
 }
 
-pub fn run(table: &mut Table) -> io::Result<()> {
+pub fn run(table: &mut Table) {
     headings(
         table,
         "Tallies of pages 3, 4, 9 and 10 over a job of 16 pulses on pages 3, 4 and 9, cut by a limit",
         "limit  before                    must be                   are",
-    )?;
+    );
     for (limit, before, must) in CUTS {
-        cut_line(table, limit, with(before), with(must))?;
+        cut_line(table, limit, with(before), with(must));
     }
-    Ok(())
 }

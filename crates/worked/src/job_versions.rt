@@ -4,7 +4,7 @@ use crate::job_cases::{Case, case, cases};
 use crate::job_cuts::{reset_and_rehearse, reset_and_run};
 use crate::job_lines::{Told, answer_line};
 use crate::table::{Table, headings};
-use std::io;
+use screen::say;
 
 // One entry: a name, the row, its kind, and what must be answered.
 const BORDERS: [(&str, u16, u8, Told); 7] = [
@@ -56,7 +56,7 @@ fn locking(byte: u8) -> [u8; 19] {
 
 // One cut, a reset and the full job: done, it leaves the uncut rows; refused, those of the cut. After the first lock pulse, which is the
 // fifth, the data row is finished.
-fn rerun(table: &mut Table, limit: u32, job: &[u8], must: Told) -> io::Result<()> {
+fn rerun(table: &mut Table, limit: u32, job: &[u8], must: Told) {
     let mut whole = [0u32; 4096];
     reset_and_run(&mut whole, job);
     let mut rows = [0u32; 4096];
@@ -65,8 +65,8 @@ fn rerun(table: &mut Table, limit: u32, job: &[u8], must: Told) -> io::Result<()
     let answer = reset_and_run(&mut rows, job);
     let left = if answer.number == 0 { whole } else { cut };
     let finished = limit < 5 || cut[0x0c0] == 0x230001;
-    print!(table.rt; "limit {limit:2}, then the full job   ")?;
-    answer_line(table, answer, must, rows == left && finished)
+    say!(table.rt; "limit {limit:2}, then the full job   ");
+    answer_line(table, answer, must, rows == left && finished);
 }
 
 // What the full job must answer after a cut, where it is refused from some pulse on.
@@ -78,36 +78,35 @@ fn must_be(limit: u32, refused: u32) -> Told {
 }
 
 // The job that locks by a byte, cut after each of its pulses.
-fn cut_lines(table: &mut Table, title: &str, byte: u8, refused: u32) -> io::Result<()> {
+fn cut_lines(table: &mut Table, title: &str, byte: u8, refused: u32) {
     headings(
         table,
         title,
         "job                           must be                          is",
-    )?;
+    );
     let job = locking(byte);
     for limit in 0..8 {
-        rerun(table, limit, &job, must_be(limit, refused))?;
+        rerun(table, limit, &job, must_be(limit, refused));
     }
-    Ok(())
 }
 
-pub fn run(table: &mut Table) -> io::Result<()> {
+pub fn run(table: &mut Table) {
     headings(
         table,
         "Version 2 jobs: where rows may stand; a refused one leaves each row as it was",
         "job                           must be                          is",
-    )?;
+    );
     for (name, row, kind, must) in BORDERS {
-        case(table, name, &single(row, kind), must)?;
+        case(table, name, &single(row, kind), must);
     }
-    cases(table, &ORDERS)?;
+    cases(table, &ORDERS);
     // A lock for Non-secure alone refuses Secure nothing: after any cut the job completes.
     cut_lines(
         table,
         "Row 0x0c0 and a Non-secure lock of page 3, cut by a limit, then a reset and the full job",
         4,
         8,
-    )?;
+    );
     // A lock for Secure is latched once two of its three copies stand, which they do after six pulses. It guards its own lock word, and the
     // page of the data row.
     cut_lines(
@@ -115,5 +114,5 @@ pub fn run(table: &mut Table) -> io::Result<()> {
         "Row 0x0c0 and a Secure lock of page 3, cut by a limit, then a reset and the full job",
         1,
         6,
-    )
+    );
 }

@@ -23,39 +23,34 @@ mod worked_rows;
 mod write_lines;
 mod writes;
 
-use screen::passing::passed_over;
-use std::io;
+use screen::say_line;
 use table::Table;
 
-fn rows(table: &mut Table) -> io::Result<()> {
-    worked_rows::run(table)?;
-    codes::run(table)?;
-    damage::run(table)?;
-    double_damage::run(table)?;
-    writes::run(table)?;
-    between::run(table)?;
-    single_bits::run(table)?;
-    votes::run(table)?;
-    vote_places::run(table)
+fn rows(table: &mut Table) {
+    worked_rows::run(table);
+    codes::run(table);
+    damage::run(table);
+    double_damage::run(table);
+    writes::run(table);
+    between::run(table);
+    single_bits::run(table);
+    votes::run(table);
+    vote_places::run(table);
 }
 
-fn jobs(table: &mut Table) -> io::Result<()> {
-    job_cases::run(table)?;
-    job_cuts::run(table)?;
-    job_tallies::run(table)?;
-    job_versions::run(table)
-}
-
-fn all(rt: &HostRuntime) -> io::Result<()> {
-    println!(rt;
-        "The code of row and job against document 01: what must be, what is, and the verdict"
-    )?;
-    let mut table = Table::new(rt);
-    rows(&mut table)?;
-    jobs(&mut table)?;
-    table.last_line()
+fn jobs(table: &mut Table) {
+    job_cases::run(table);
+    job_cuts::run(table);
+    job_tallies::run(table);
+    job_versions::run(table);
 }
 
 fn main(rt: HostRuntime) {
-    passed_over(all(&rt));
+    say_line!(&rt;
+        "The code of row and job against document 01: what must be, what is, and the verdict"
+    );
+    let mut table = Table::new(&rt);
+    rows(&mut table);
+    jobs(&mut table);
+    table.last_line();
 }

@@ -2,8 +2,9 @@
 use crate::table::Table;
 use answer::answers::{Answer, Condition, Polarity};
 use decode::reading::read_row;
+use screen::say;
 use screen::shown::{Bits, Value};
-use std::{fmt, io};
+use std::fmt;
 
 // What must be is written out here, since the library's own makers of answers are under test.
 fn must(number: u32, value: u32, condition: Condition, polarity: Polarity) -> Answer {
@@ -70,13 +71,13 @@ impl fmt::Display for Shown {
 }
 
 // One read on a line of its own.
-pub fn read_line(table: &mut Table, label: &str, row: u32, must: Answer) -> io::Result<()> {
+pub fn read_line(table: &mut Table, label: &str, row: u32, must: Answer) {
     let is = read_row(row);
-    print!(table.rt;
+    say!(table.rt;
         "{label:<10}read {}               {}{}   ",
         Bits(row),
         Shown(must),
         Shown(is)
-    )?;
-    table.verdict(is == must)
+    );
+    table.verdict(is == must);
 }

@@ -1,10 +1,11 @@
 // How the lines of the table are grouped, and how a share of many is written.
+use screen::say_line;
 pub use screen::table::Table;
-use std::{fmt, io};
+use std::fmt;
 
 // The title of a group of lines, and below it the titles of its columns.
-pub fn headings(table: &Table, title: &str, columns: &str) -> io::Result<()> {
-    println!(table.rt; "\n{title}\n{columns}")
+pub fn headings(table: &Table, title: &str, columns: &str) {
+    say_line!(table.rt; "\n{title}\n{columns}");
 }
 
 // "7 of 22 repaired"

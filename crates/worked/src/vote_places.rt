@@ -4,7 +4,7 @@ ghost use Rattle.std.specs.Prelude.{◌≤◌, ◌<◌};
 
 use crate::places::places;
 use crate::table::{Share, Table, headings};
-use std::io;
+use screen::say;
 use vote::voting::{Gathered, vote};
 
 const FULL: u32 = 0xffffff;
@@ -41,28 +41,27 @@ impl Ballot {
         })
     }
 
-    fn line(self, table: &mut Table, held: u32) -> io::Result<()> {
+    fn line(self, table: &mut Table, held: u32) {
         let right = self.right(held);
         let voted = if self.least <= held { "set  " } else { "clear" };
         let count = self.count;
-        print!(table.rt; "{held} of {count} rows    {}   ", Share(right, 24, voted))?;
-        table.verdict_of_many(right, 24)
+        say!(table.rt; "{held} of {count} rows    {}   ", Share(right, 24, voted));
+        table.verdict_of_many(right, 24);
     }
 }
 
-pub fn run(table: &mut Table) -> io::Result<()> {
+pub fn run(table: &mut Table) {
     headings(
         table,
         "Votes on each of the 24 places by itself",
         "have the bit   places",
-    )?;
+    );
     let of_three = Ballot { count: 3, least: 2 };
     for held in 0..4 {
-        of_three.line(table, held)?;
+        of_three.line(table, held);
     }
     let of_eight = Ballot { count: 8, least: 3 };
     for held in 0..9 {
-        of_eight.line(table, held)?;
+        of_eight.line(table, held);
     }
-    Ok(())
 }

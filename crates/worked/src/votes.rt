@@ -1,8 +1,8 @@
 // Votes over gathered rows (document 01, "Votes"): two of three, three of eight, and how many of
 // the eight rows are counted.
 use crate::table::{Table, headings};
+use screen::say;
 use screen::shown::Bits;
-use std::io;
 use vote::voting::{Gathered, threshold, vote};
 
 const FULL: u32 = 0xffffff;
@@ -114,27 +114,26 @@ const THRESHOLDS: [(&str, u32, u32); 2] = [
     ("threshold of 8 rows", 8, 3),
 ];
 
-fn vote_lines(table: &mut Table, votes: &[Vote]) -> io::Result<()> {
+fn vote_lines(table: &mut Table, votes: &[Vote]) {
     for &(what, rows, count, least, must) in votes {
         let is = vote(rows, count, least);
-        print!(table.rt; "{what:<50}{}  {}   ", Bits(must), Bits(is))?;
-        table.verdict(is == must)?;
+        say!(table.rt; "{what:<50}{}  {}   ", Bits(must), Bits(is));
+        table.verdict(is == must);
     }
-    Ok(())
 }
 
-pub fn run(table: &mut Table) -> io::Result<()> {
+pub fn run(table: &mut Table) {
     headings(
         table,
         "Votes",
         "what                                              must be   is",
-    )?;
+    );
     for (what, count, must) in THRESHOLDS {
         let is = threshold(count);
-        print!(table.rt; "{what:<50}{must}         {is}          ")?;
-        table.verdict(is == must)?;
+        say!(table.rt; "{what:<50}{must}         {is}          ");
+        table.verdict(is == must);
     }
-    vote_lines(table, &OF_THREE)?;
-    vote_lines(table, &OF_EIGHT)?;
-    vote_lines(table, &OF_OTHER_COUNTS)
+    vote_lines(table, &OF_THREE);
+    vote_lines(table, &OF_EIGHT);
+    vote_lines(table, &OF_OTHER_COUNTS);
 }

@@ -5,8 +5,8 @@ use crate::table::{Table, headings};
 use crate::write_lines::{Left, ecc_line};
 use answer::answers::Polarity;
 use row::coding::code;
+use screen::say;
 use screen::shown::{Bits, Value};
-use std::io;
 
 const CODES: [(&str, u16, u32); 2] = [("P1", 0xffff, 0x1effff), ("P2", 0x8000, 0x158000)];
 
@@ -16,18 +16,18 @@ const WRITES: [(&str, u16, u32, Left); 3] = [
     ("P12", 3, 0x230001, Left(9, 0x230001, 0)),
 ];
 
-fn code_line(table: &mut Table, label: &str, value: u16, must: u32) -> io::Result<()> {
+fn code_line(table: &mut Table, label: &str, value: u16, must: u32) {
     let is = code(value);
-    print!(table.rt;
+    say!(table.rt;
         "{label:<10}code of {}              {}                    {}                       ",
         Value(u32::from(value)),
         Bits(must),
         Bits(is)
-    )?;
-    table.verdict(is == must)
+    );
+    table.verdict(is == must);
 }
 
-fn read_lines(table: &mut Table) -> io::Result<()> {
+fn read_lines(table: &mut Table) {
     let reads = [
         ("P3", 0x230001, clean(1, Polarity::Plain)),
         ("P4", 0x230000, repaired(1, 0, Polarity::Plain)),
@@ -38,23 +38,21 @@ fn read_lines(table: &mut Table) -> io::Result<()> {
         ("P9", 0x9cfffe, refused(8)),
     ];
     for (label, row, must) in reads {
-        read_line(table, label, row, must)?;
+        read_line(table, label, row, must);
     }
-    Ok(())
 }
 
-pub fn run(table: &mut Table) -> io::Result<()> {
+pub fn run(table: &mut Table) {
     headings(
         table,
         "The twelve worked rows: number, value, condition and polarity, or number, row and pulses",
         "case      what                        must be                     is",
-    )?;
+    );
     for (label, value, must) in CODES {
-        code_line(table, label, value, must)?;
+        code_line(table, label, value, must);
     }
-    read_lines(table)?;
+    read_lines(table);
     for (label, value, old, must) in WRITES {
-        ecc_line(table, label, value, old, must)?;
+        ecc_line(table, label, value, old, must);
     }
-    Ok(())
 }
