@@ -18,7 +18,7 @@ use Rattle.chip.specs.declared.state.Outcome.{Outcome}
 use Rattle.burn.specs.Burning.{Left, beside, one_row, burnt_or_kept}
 
 -- the same number, and where that is 0 the same row and pulses
-leaves : (rows : List ℕ) (state : State) (row meant : ℕ) (means : Written) (written : Result Burnt Refusal)
+pub leaves : (rows : List ℕ) (state : State) (row meant : ℕ) (means : Written) (written : Result Burnt Refusal)
     → number_of written ≡ meant → IfOk written (λ burnt. done_with burnt ≡ means)
     → burnt_or_kept rows state row written ≡ one_row meant rows state row means
 leaves rows state row meant means (Ok burnt) number same = ap₂ (λ (n : ℕ) (w : Written). one_row n rows state row w) number same
